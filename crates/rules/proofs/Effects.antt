@@ -1,0 +1,161 @@
+-- An accepted command does exactly what paper 01 says.
+-- Assumes nothing.
+use mathlib.Core.Path.{_≡_, refl, ap, _∙_}
+use mathlib.Core.Bool.{true}
+use mathlib.Core.List.{List}
+use Prim.Native.Nat.{ℕ, _+_, _*_, _≤_, _<_}
+use native.Mathlib.Omega.{arith}
+use lib.ListN.{length, getD, take, length-set}
+use lib.Seq.{length-take-le, getD-take}
+use Rattle.lists.proofs.Tests.{contra}
+use Rattle.lists.proofs.Below.{any-of, first-found, first-before}
+use Rattle.lists.proofs.Splice.{splice-length, splice-in, splice-below, splice-above, splice-front, splice-rest}
+use Rattle.wire.specs.Bytes.{beAt}
+use Rattle.wire.proofs.Words.{words-at-length, words-at-word}
+use Rattle.rules.specs.Regions.{anyRight, loadRight, dumpRight, inOneRegion, imageIndex}
+use Rattle.rules.specs.States.{poolAt}
+use Rattle.rules.specs.Packets.{decode, requestOf, commandTransaction, dataWords}
+use Rattle.rules.specs.Pools.{Block, whole, replyBytes}
+use Rattle.rules.specs.Commands.{CommandArgs, isIdle, firstIdle, firstWith, setContext, poolWords, replied, carryOut, commandCall}
+use Rattle.rules.specs.Demand2.{rangeOf, poolOf, IsAccepted, OnePlace, DumpAllowed, DumpDone, CancelAllowed, CancelDone, LoadAllowed, LoadDone, PoolAllowed, PoolDone, Effects}
+use Rattle.rules.specs.declared.Command.the-variants.{Dump, Cancel, Load, PoolStatistics}
+use Rattle.rules.specs.declared.Context.{Context}
+use Rattle.rules.specs.declared.Decoded.{Decoded}
+use Rattle.rules.specs.declared.Decoded.the-variants.{Known}
+use Rattle.rules.specs.declared.Place.{Place}
+use Rattle.rules.specs.declared.State.{State}
+use Rattle.rules.proofs.Table.{holds-any, one-out, one-in, one-any, image-fits, image-index, range-low, words-length}
+use Rattle.rules.proofs.Good.{GoodIs, good-out, context-same, context-other}
+use Rattle.rules.proofs.Rules.{StartIs, start-out, pool-out as rules-pool}
+use Rattle.rules.proofs.Pools.{tiles-blocks, tiles-words, figures-fit, reply-figures}
+use Rattle.rules.proofs.Passed.{Passed, passed-out, accepted-call, tests-of}
+use Rattle.rules.proofs.Allowed.{decode-dump, decode-cancel, decode-load, decode-pool, dump-out, cancel-out, load-out, pool-out, idle-out, idleAt, numberAt}
+
+-- one place of four set
+one-place : (ps : List Place) (i : ℕ) (a : Context) → i < 4 → length ps ≡ 4 → OnePlace ps i (setContext ps i a)
+one-place ps i a l four = record { in-four = l; four = length-set ps i (record { context = a }) ∙ four; others = λ j ne. context-other ps i j a ne }
+
+-- the words that a load of n words writes
+module _ (p : List ℕ) (n : ℕ) (most : n ≤ 11) where
+  load-length : length (take n (dataWords p)) ≡ n
+  load-length = let e = words-at-length 11 p 16 in length-take-le n (dataWords p) (omega arith)
+
+  load-word : (k : ℕ) → k < n → getD (take n (dataWords p)) k 0 ≡ beAt 4 p (16 + 4 * k)
+  load-word k l = getD-take n (dataWords p) k 0 l ∙ words-at-word 11 p 16 k (omega arith)
+
+-- a reply is 32 bytes long
+reply-length : (count unit transaction pool : ℕ) (bs : List Block) → length (replyBytes count unit transaction pool bs) ≡ 32
+unfolding replyBytes
+reply-length count unit transaction pool bs = refl
+
+module _ (s : State) (c : CommandArgs) (h : IsAccepted s c) where
+  passed : Passed s c
+  passed = passed-out s c h
+
+  good : GoodIs s
+  good = good-out s (passed .good)
+
+  start : StartIs (s .regions) (s .count) (s .pools) (s .unit)
+  start = start-out (s .regions) (s .count) (s .pools) (s .unit) (good .rules)
+
+  call-is : {d : Decoded} → decode (c .packet) ≡ d → commandCall s c ≡ carryOut s c d
+  call-is e = accepted-call s c h ∙ ap (carryOut s c) e
+
+  dump-done : DumpAllowed s (c .packet) → DumpDone s c (carryOut s c (Known (Dump (requestOf (c .packet)))))
+  unfolding firstIdle
+  dump-done a =
+      let f = first-found (idleAt s) 4 (any-of (idleAt s) 4 (a .place .1) (ap isIdle (a .place .2))) in
+      let four = good .places .four in
+      record {
+        i = firstIdle (s .places);
+        idle = idle-out _ (f .1);
+        lowest = λ j l e. contra (ap isIdle e) (first-before (idleAt s) 4 l);
+        now = context-same (s .places) _ _ (omega arith);
+        rest = one-place (s .places) _ _ (f .0) four;
+        state = refl;
+        image = refl;
+        reply = (refl, refl);
+      }
+
+  cancel-done : CancelAllowed s (c .packet) → CancelDone s c (carryOut s c (Known Cancel))
+  unfolding firstWith
+  cancel-done a =
+      let f = first-found (numberAt s c) 4 (any-of (numberAt s c) 4 (a .busy .1) (a .busy .2)) in
+      let four = good .places .four in
+      record {
+        i = firstWith (commandTransaction (c .packet)) (s .places);
+        busy = f .1;
+        now = context-same (s .places) _ _ (omega arith);
+        rest = one-place (s .places) _ _ (f .0) four;
+        state = refl;
+        image = refl;
+        reply = (refl, refl);
+      }
+
+  load-done : LoadAllowed s (c .packet) → LoadDone s c (carryOut s c (Known (Load (requestOf (c .packet)))))
+  load-done a =
+      let p = c .packet in
+      let r = rangeOf p in
+      let v = take (r .words) (dataWords p) in
+      let e : length v ≡ r .words = load-length p (r .words) (a .most) in
+      let one = one-in anyRight (s .regions) (s .count) r _ (holds-any loadRight (s .regions) (s .count) r _ (a .region .1)) in
+      let in-image = image-fits (s .regions) (s .count) r one in
+      let first = imageIndex (s .regions) (s .count) r .0 in
+      let fits : first + length v ≤ length (c .image) = omega (arith, passed .image) in
+      record {
+        first = first;
+        index = λ i l. image-index (s .regions) (s .count) (start .table) r i (a .some) l;
+        inside = omega (arith, passed .image);
+        as-long = splice-length (c .image) first v fits;
+        written = λ k l. splice-in (c .image) first v fits k (omega arith) ∙ load-word p (r .words) (a .most) k l;
+        below = splice-below (c .image) first v fits;
+        above = λ x l. splice-above (c .image) first v fits x (omega arith);
+        state = refl;
+        reply = (refl, refl);
+      }
+
+  -- the pool lies whole in one region, so that its size fits in a word
+  pool-inside : PoolAllowed s c → inOneRegion anyRight (s .regions) (s .count) (poolAt (s .pools) (poolOf (c .packet))) ≡ true
+  pool-inside a =
+      let rules = rules-pool (s .regions) (s .count) _ (start .pools (poolOf (c .packet)) (a .pool)) (a .there) in
+      one-any dumpRight (s .regions) (s .count) _ (rules .region)
+
+  pool-length : PoolAllowed s c
+      → length (poolWords s (poolOf (c .packet)) (c .image)) ≡ poolAt (s .pools) (poolOf (c .packet)) .words
+  pool-length a = words-length (s .regions) (s .count) _ (c .image) (pool-inside a) (passed .image)
+
+  pool-low : PoolAllowed s c → poolAt (s .pools) (poolOf (c .packet)) .words < 4294967296
+  pool-low a =
+      let pool = poolAt (s .pools) (poolOf (c .packet)) in
+      let r = one-out anyRight (s .regions) (s .count) pool (pool-inside a) in
+      let l = range-low (s .regions) (s .count) (start .table) pool (r .0) (r .1) in
+      omega arith
+
+  pool-replied : (a : PoolAllowed s c) → PoolDone s c (replied s c (poolOf (c .packet)) (whole (a .blocks .0)))
+  pool-replied a =
+      let v = replyBytes (s .replies) (s .unit) (commandTransaction (c .packet)) (poolOf (c .packet)) (a .blocks .0) in
+      let e : length v ≡ 32 = reply-length _ _ _ _ _ in
+      let fit = figures-fit (a .blocks .1) (rw (pool-length a) (pool-low a)) in
+      record {
+        found = a .blocks .0;
+        tiles = a .blocks .1;
+        figures = reply-figures _ _ _ _ (a .blocks .0) (c .reply) fit;
+        size = tiles-words (a .blocks .1) ∙ pool-length a;
+        reported = refl;
+        reply = rw e at (splice-front (c .reply) v);
+        rest = rw e at (splice-rest (c .reply) v);
+        state = refl;
+        image = refl;
+      }
+
+  pool-done : PoolAllowed s c → PoolDone s c (carryOut s c (Known (PoolStatistics (poolOf (c .packet)))))
+  pool-done a = rw (tiles-blocks (a .blocks .1)) (pool-replied a)
+
+  pub effects : Effects s c
+  effects =
+      record {
+        dump = λ e. let d = decode-dump (c .packet) e in rw (call-is d) (dump-done (dump-out s c (tests-of s c _ d h)));
+        cancel = λ e. let d = decode-cancel (c .packet) e in rw (call-is d) (cancel-done (cancel-out s c (tests-of s c _ d h)));
+        load = λ e. let d = decode-load (c .packet) e in rw (call-is d) (load-done (load-out s c (tests-of s c _ d h)));
+        pool = λ e. let d = decode-pool (c .packet) e in rw (call-is d) (pool-done (pool-out s c (tests-of s c _ d h)));
+      }

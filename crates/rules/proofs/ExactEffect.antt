@@ -1,0 +1,20 @@
+-- Demand 2, from its parts.
+-- Assumes nothing.
+use Rattle.rules.specs.Demand2.{Demand2}
+use Rattle.rules.proofs.AcceptedWhen.{accepted-when}
+use Rattle.rules.proofs.Effects.{effects}
+use Rattle.rules.proofs.Located.{located}
+use Rattle.rules.proofs.Slot.{slot}
+use Rattle.rules.proofs.StaysGood.{command-good, slot-good, start-good}
+
+pub demand-2 : Demand2
+demand-2 =
+    record {
+      accepted-when = accepted-when;
+      effects = effects;
+      slot = slot;
+      located = located;
+      command-good = command-good;
+      slot-good = slot-good;
+      start-good = start-good;
+    }

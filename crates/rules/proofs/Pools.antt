@@ -1,0 +1,122 @@
+-- The walk over a pool finds exactly the blocks that the pool's words are, and their sizes add up to the pool's.
+-- Assumes nothing.
+use mathlib.Core.Path.{_≡_, refl, sym, ap, _∙_}
+use mathlib.Core.Bool.{Bool, true, false, cond, not}
+use mathlib.Core.List.{List, [], _∷_, _++_}
+use Prim.Native.Nat.{ℕ, zero, suc, _+_, _-_, _≤_, _<_}
+use native.Mathlib.Omega.{arith}
+use native.Mathlib.Nat.{zero-add, pos-of-ne-zero}
+use lib.Dec.{eqb}
+use lib.ListN.{length, take, drop, length-append, take-append-drop}
+use lib.Seq.{length-take-le}
+use borrow.Author.Tests.{eqb-false, ne-eqb}
+use Rattle.lists.proofs.Tests.{either}
+use Rattle.lists.specs.Splice.{splice}
+use Rattle.wire.specs.Bytes.{wordsAt}
+use Rattle.wire.proofs.Numbers.{be-back}
+use Rattle.rules.specs.Pools.{Block, blockOf, Walk, damaged, whole, after, blocksFrom, blocksOf, words, blocks, largest, isFree, isUsed, replyBytes}
+use Rattle.rules.specs.Demand2.{Tiles, end, next}
+
+-- the rest of a block is passed over
+pass : (rest ws : List ℕ) → blocksFrom (length rest) (rest ++ ws) ≡ blocksFrom 0 ws
+unfolding blocksFrom
+pass [] ws = refl
+pass (x ∷ rest) ws = pass rest ws
+
+-- a block's first word, where the size is not 0
+first : (w k : ℕ) (ws : List ℕ) → blockOf w .size ≡ suc k → blocksFrom 0 (w ∷ ws) ≡ after (blockOf w) (blocksFrom k ws)
+unfolding blocksFrom
+first w k ws e =
+    let n : eqb (blockOf w .size) 0 ≡ false = ne-eqb (blockOf w .size) 0 (λ z. omega arith) in
+    let p : blockOf w .size - 1 ≡ k = omega arith in
+    rw (n, p)
+
+pub tiles-blocks : {ws : List ℕ} {bs : List Block} → Tiles ws bs → blocksOf ws ≡ whole bs
+unfolding blocksFrom
+tiles-blocks end = refl
+tiles-blocks (next w rest ws bs e t) = first w (length rest) (rest ++ ws) e ∙ ap (after (blockOf w)) (pass rest ws ∙ tiles-blocks t)
+
+-- a walk that is whole has one block first
+after-whole : (b : Block) (x : Walk) (bs : List Block) → after b x ≡ whole bs → (cs : List Block) × (x ≡ whole cs) × (b ∷ cs ≡ bs)
+after-whole b damaged bs h = let z : _≡_ {A = ℕ} 0 1 = cc in absurd (omega arith)
+after-whole b (whole cs) bs h = (cs, refl, cc)
+
+-- the words after the first k are the blocks
+abbrev Found : ℕ → List ℕ → List Block → Type 0
+Found k ws bs = (k ≤ length ws) × Tiles (drop k ws) bs
+
+found : (k : ℕ) (ws : List ℕ) (bs : List Block) → blocksFrom k ws ≡ whole bs → Found k ws bs
+unfolding blocksFrom
+found zero [] [] h = (omega arith, end)
+found zero [] (b ∷ bs) h = let z : _≡_ {A = ℕ} 0 1 = cc in absurd (omega arith)
+found (suc k) [] bs h = let z : _≡_ {A = ℕ} 0 1 = cc in absurd (omega arith)
+found (suc k) (w ∷ ws) bs h = let r = found k ws bs h in (omega arith, r .1)
+found zero (w ∷ ws) bs h =
+    here (eqb (blockOf w .size) 0) refl h (λ cs. found (blockOf w .size - 1) ws cs)
+  where
+    here : (t : Bool) → eqb (blockOf w .size) 0 ≡ t → cond t damaged (after (blockOf w) (blocksFrom (blockOf w .size - 1) ws)) ≡ whole bs
+        → ((cs : List Block) → blocksFrom (blockOf w .size - 1) ws ≡ whole cs → Found (blockOf w .size - 1) ws cs) → Found zero (w ∷ ws) bs
+    here true e q more = let z : _≡_ {A = ℕ} 0 1 = cc in absurd (omega arith)
+    here false e q more =
+        let k : ℕ = blockOf w .size - 1 in
+        let one : 1 ≤ blockOf w .size = pos-of-ne-zero (eqb-false (blockOf w .size) 0 e) in
+        let x = after-whole (blockOf w) (blocksFrom k ws) bs q in
+        let r = more (x .0) (x .1) in
+        let n : length (take k ws) ≡ k = length-take-le k ws (r .0) in
+        let t : Tiles (w ∷ take k ws ++ drop k ws) (blockOf w ∷ x .0) = next w (take k ws) (drop k ws) (x .0) (omega arith) (r .1) in
+        (omega arith, rw (take-append-drop k ws, x .2) at t)
+
+pub blocks-tiles : (ws : List ℕ) (bs : List Block) → blocksOf ws ≡ whole bs → Tiles ws bs
+blocks-tiles ws bs h = found 0 ws bs h .1
+
+-- a block is free or used
+shares : (b : Block) (x y : ℕ) → cond (isFree b) (b .size) 0 + x + (cond (isUsed b) (b .size) 0 + y) ≡ b .size + (x + y)
+shares b x y = either (b .used) (λ e. rw e (omega arith)) (λ e. rw e (omega arith))
+
+pub tiles-words : {ws : List ℕ} {bs : List Block} → Tiles ws bs → words isFree bs + words isUsed bs ≡ length ws
+tiles-words end = refl
+tiles-words (next w rest ws bs e t) =
+    let h = tiles-words t in
+    shares (blockOf w) (words isFree bs) (words isUsed bs) ∙ simp length-append (omega arith)
+
+-- no figure is above the words of its blocks
+figure-bound : {ws : List ℕ} {bs : List Block} (pick : Block → Bool) → Tiles ws bs → (blocks pick bs ≤ words pick bs) × (largest pick bs ≤ words pick bs)
+figure-bound pick end = (omega arith, omega arith)
+figure-bound pick (next w rest ws bs e t) =
+    let h = figure-bound pick t in
+    either (pick (blockOf w)) (λ q. rw q (omega arith, omega arith)) (λ q. rw q (omega arith, omega arith))
+
+-- so each of the five fits in a word if the pool's size does
+pub record FiguresFit (bs : List Block) : Type 0 where
+  pub free-words : words isFree bs < 4294967296
+  pub free-blocks : blocks isFree bs < 4294967296
+  pub largest-free : largest isFree bs < 4294967296
+  pub used-words : words isUsed bs < 4294967296
+  pub used-blocks : blocks isUsed bs < 4294967296
+
+pub figures-fit : {ws : List ℕ} {bs : List Block} → Tiles ws bs → length ws < 4294967296 → FiguresFit bs
+figures-fit t l =
+    let s = tiles-words t in
+    let f = figure-bound isFree t in
+    let u = figure-bound isUsed t in
+    record {
+      free-words = omega arith;
+      free-blocks = omega arith;
+      largest-free = omega arith;
+      used-words = omega arith;
+      used-blocks = omega arith;
+    }
+
+-- the five words of the reply are the figures
+pub reply-figures : (count unit t pool : ℕ) (bs : List Block) (buffer : List ℕ) → FiguresFit bs
+    → wordsAt 5 (splice buffer 0 (replyBytes count unit t pool bs)) 12
+    ≡ words isFree bs ∷ blocks isFree bs ∷ largest isFree bs ∷ words isUsed bs ∷ blocks isUsed bs ∷ []
+unfolding wordsAt splice replyBytes
+reply-figures count unit t pool bs buffer f =
+    rw (
+      be-back 4 (words isFree bs) (f .free-words),
+      be-back 4 (blocks isFree bs) (f .free-blocks),
+      be-back 4 (largest isFree bs) (f .largest-free),
+      be-back 4 (words isUsed bs) (f .used-words),
+      be-back 4 (blocks isUsed bs) (f .used-blocks),
+    )

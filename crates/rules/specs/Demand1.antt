@@ -1,0 +1,96 @@
+-- DEMAND 1: safe, exact refusals. Over every state, packet, image and buffer of any content and length: each number is given exactly in
+-- its case, the lowest first, and a refusal leaves all as it was, save a refused count where paper 01's "Result numbers" says so.
+-- That every call ends and touches only what it was lent is no statement here: the checker proves it of each function that has a body.
+use mathlib.Core.Path.{_≡_}
+use mathlib.Core.Logic.{_≢_, _↔_}
+use mathlib.Core.Bool.{Bool, true, false, _&&_, _||_}
+use mathlib.Core.List.{List, [], _∷_}
+use Prim.Native.Nat.{ℕ, _+_, _%_, _<_}
+use lib.Dec.{eqb}
+use lib.ListN.{length}
+use Rattle.rules.specs.States.{startRules, startUp, noState}
+use Rattle.rules.specs.Results.{number, verdictNumber, answerNumber, answerLength, Row}
+use Rattle.rules.specs.Commands.{CommandArgs, Outcome, commandRows, commandCall, changed}
+use Rattle.rules.specs.Slots.{SlotArgs, slotRows, slotCall}
+use Rattle.rules.specs.Ground.{writerRows, writeCommand, readerRows, readCommand, readingNumber, noWords, packetRows, readPacket, packetNumber}
+use Rattle.rules.specs.declared.State.{State}
+use Rattle.rules.specs.declared.Region.{Region}
+use Rattle.rules.specs.declared.Range.{Range}
+use Rattle.rules.specs.declared.Header.{Header}
+use Rattle.rules.specs.declared.Command.{Command}
+
+-- A CALL'S ROWS of the table of result numbers (commandRows, slotRows and so on) give for each number that the call can answer its case
+
+abbrev pub numbersOf : List Row → List ℕ
+numbersOf [] = []
+numbersOf (r ∷ rs) = number (r .refusal) ∷ numbersOf rs
+
+-- the case of number k is there
+abbrev pub applies : ℕ → List Row → Bool
+applies k [] = false
+applies k (r ∷ rs) = (eqb (number (r .refusal)) k && r .applies) || applies k rs
+
+-- k is the lowest number that applies, and 0 if none does: each number is given exactly in its case
+pub record Lowest (rows : List Row) (k : ℕ) : Type 0 where
+  pub refused : (j : ℕ) → 0 < j → (k ≡ j) ↔ ((applies j rows ≡ true) × ((i : ℕ) → i < j → applies i rows ≡ false))
+  pub done : (k ≡ 0) ↔ ((i : ℕ) → applies i rows ≡ false)
+
+abbrev pub oneOf : ℕ → List ℕ → Bool
+oneOf k [] = false
+oneOf k (x ∷ xs) = eqb k x || oneOf k xs
+
+-- numbers that return the state as handed in, and numbers that add one to the refused count and change no other part of the state
+abbrev pub keepsState : ℕ → Bool
+keepsState k = oneOf k (1 ∷ 2 ∷ 3 ∷ 5 ∷ 8 ∷ 16 ∷ [])
+
+abbrev pub countsRefused : ℕ → Bool
+countsRefused k = oneOf k (4 ∷ 6 ∷ 7 ∷ 9 ∷ 10 ∷ 11 ∷ 12 ∷ 13 ∷ 14 ∷ 15 ∷ [])
+
+pub record CommandRefusals (s : State) (c : CommandArgs) (o : Outcome) : Type 0 where
+  pub numbers : numbersOf (commandRows s c) ≡ 1 ∷ 2 ∷ 3 ∷ 4 ∷ 5 ∷ 6 ∷ 7 ∷ 8 ∷ 9 ∷ 10 ∷ 11 ∷ 12 ∷ 13 ∷ 14 ∷ 15 ∷ []
+  pub lowest : Lowest (commandRows s c) (answerNumber (o .answer))
+  -- on every number but 0 image and reply buffer stay, and no length is reported
+  pub kept : answerNumber (o .answer) ≢ 0 → (o .image ≡ c .image) × (o .buffer ≡ c .reply) × (answerLength (o .answer) ≡ 0)
+  pub same : keepsState (answerNumber (o .answer)) ≡ true → o .state ≡ s
+  pub one-more : countsRefused (answerNumber (o .answer)) ≡ true
+      → o .state ≡ changed s (s .places) (s .replies) (s .accepted) ((s .refused + 1) % 65536)
+  -- number 0 adds one to the accepted count, and to no refused count
+  pub accepted : answerNumber (o .answer) ≡ 0 → (o .state .accepted ≡ (s .accepted + 1) % 65536) × (o .state .refused ≡ s .refused)
+  -- what was lent keeps its length
+  pub lent : (length (o .image) ≡ length (c .image)) × (length (o .buffer) ≡ length (c .reply))
+
+pub record SlotRefusals (s : State) (c : SlotArgs) (o : Outcome) : Type 0 where
+  pub numbers : numbersOf (slotRows s c) ≡ 1 ∷ 2 ∷ 3 ∷ 16 ∷ []
+  pub lowest : Lowest (slotRows s c) (answerNumber (o .answer))
+  pub kept : answerNumber (o .answer) ≢ 0 → (o .state ≡ s) × (o .buffer ≡ c .buffer) × (answerLength (o .answer) ≡ 0)
+  -- a slot never writes the image, nor the counts of commands
+  pub image : o .image ≡ c .image
+  pub counts : (o .state .accepted ≡ s .accepted) × (o .state .refused ≡ s .refused)
+  pub lent : length (o .buffer) ≡ length (c .buffer)
+
+pub record StartRefusals (rs : List Region) (n : ℕ) (pools : List Range) (unit : ℕ) : Type 0 where
+  pub ready : (verdictNumber (startUp rs n pools unit .verdict) ≡ 0) ↔ (startRules rs n pools unit ≡ true)
+  pub refused : (verdictNumber (startUp rs n pools unit .verdict) ≡ 17) ↔ (startRules rs n pools unit ≡ false)
+  pub nothing : verdictNumber (startUp rs n pools unit .verdict) ≡ 17 → startUp rs n pools unit .state ≡ noState
+
+pub record GroundRefusals (h : Header) (k : Command) (ws buffer p : List ℕ) : Type 0 where
+  pub writer-numbers : numbersOf (writerRows h k buffer) ≡ 3 ∷ 9 ∷ []
+  pub writer : Lowest (writerRows h k buffer) (answerNumber (writeCommand h k ws buffer .answer))
+  pub writer-kept : answerNumber (writeCommand h k ws buffer .answer) ≢ 0
+      → (writeCommand h k ws buffer .buffer ≡ buffer) × (answerLength (writeCommand h k ws buffer .answer) ≡ 0)
+  pub writer-lent : length (writeCommand h k ws buffer .buffer) ≡ length buffer
+  pub reader-numbers : numbersOf (readerRows p) ≡ 4 ∷ 5 ∷ 6 ∷ 7 ∷ 9 ∷ []
+  pub reader : Lowest (readerRows p) (readingNumber (readCommand p .reading))
+  pub reader-empty : readingNumber (readCommand p .reading) ≢ 0 → readCommand p .words ≡ noWords
+  pub packet-numbers : numbersOf (packetRows p) ≡ 4 ∷ 5 ∷ 7 ∷ 9 ∷ []
+  pub packet : Lowest (packetRows p) (packetNumber (readPacket p .reading))
+  pub packet-empty : packetNumber (readPacket p .reading) ≢ 0 → readPacket p .part ≡ []
+
+pub record Demand1 : Type 0 where
+  pub command : (s : State) (c : CommandArgs) → CommandRefusals s c (commandCall s c)
+  pub slot : (s : State) (c : SlotArgs) → SlotRefusals s c (slotCall s c)
+  pub start : (rs : List Region) (n : ℕ) (pools : List Range) (unit : ℕ) → StartRefusals rs n pools unit
+  -- the state that start-up gives with 17 is refused with 1 by every later call
+  pub no-command : (c : CommandArgs) → answerNumber (commandCall noState c .answer) ≡ 1
+  pub no-slot : (c : SlotArgs) → answerNumber (slotCall noState c .answer) ≡ 1
+  pub ground : (h : Header) (k : Command) (ws buffer p : List ℕ) → GroundRefusals h k ws buffer p

@@ -1,0 +1,12 @@
+pub mod Regions
+pub mod States
+pub mod Results
+pub mod Packets
+pub mod Pools
+pub mod Commands
+pub mod Slots
+pub mod Ground
+pub mod Demand1
+pub mod Demand2
+pub mod Demand3
+pub mod Examples

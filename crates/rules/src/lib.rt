@@ -1,0 +1,183 @@
+// The types of the memory service, and paper 01's examples and demands as theorems over the definitions in specs/.
+ghost use Rattle.rules.specs.Examples.{Examples};
+ghost use Rattle.rules.specs.Demand1.{Demand1};
+ghost use Rattle.rules.specs.Demand2.{Demand2};
+ghost use Rattle.rules.specs.Demand3.{Demand3};
+
+// A byte address.
+pub struct Address(pub u32);
+
+// A word's index in the image. Only the region lookup makes one from an Address.
+pub struct WordIndex(pub usize);
+
+// Words from a byte address on.
+pub struct Range {
+    pub start: Address,
+    pub words: u32,
+}
+
+// A region of the table, with its load right and its dump right.
+pub struct Region {
+    pub range: Range,
+    pub load: bool,
+    pub dump: bool,
+}
+
+// A dump under way: its transaction number, what was requested, and how many words were sent.
+pub struct ActiveDump {
+    pub transaction: u16,
+    pub range: Range,
+    pub sent: u32,
+}
+
+// What a dump place does. Idle is first: it is what an unset element of an array holds.
+pub enum Context {
+    Idle,
+    Busy(ActiveDump),
+}
+
+// One of the four dump places.
+pub struct Place {
+    pub context: Context,
+}
+
+// The state of the service, handed in and returned by value. Of the sixteen regions the first `count` are in use.
+// `last` is the place served last; `replies` and `packets` are the packet counts of APID 785 and 788.
+pub struct State {
+    pub regions: [Region; 16],
+    pub count: usize,
+    pub pools: [Range; 2],
+    pub unit: u8,
+    pub places: [Place; 4],
+    pub last: u8,
+    pub replies: u16,
+    pub packets: u16,
+    pub accepted: u16,
+    pub refused: u16,
+}
+
+// What every packet carries: sequence count, unit and transaction.
+pub struct Header {
+    pub count: u16,
+    pub unit: u8,
+    pub transaction: u16,
+}
+
+// The size in words and the address of a dump or a load, as their packets carry them.
+pub struct Request {
+    pub size: u16,
+    pub address: Address,
+}
+
+// The commands. A load's data words stand beside it, since an enum holds no array.
+pub enum Command {
+    Dump(Request),
+    Cancel,
+    Load(Request),
+    PoolStatistics(u16),
+}
+
+// What a function code names.
+pub enum Decoded {
+    Unknown,
+    Known(Command),
+}
+
+// Why a call is refused: one variant for each number from 1 to 17, in that order.
+pub enum Refusal {
+    BadState,
+    ImageLength,
+    BufferLength,
+    Malformed,
+    OtherApid,
+    UnknownCode,
+    PacketLength,
+    OtherUnit,
+    BadField,
+    OutsideRegions,
+    NoRight,
+    TransactionBusy,
+    PlacesBusy,
+    NotBusy,
+    PoolDamaged,
+    NothingToSend,
+    BadTable,
+}
+
+// The outcome of a call's tests.
+pub enum Verdict {
+    Accepted,
+    Rejected(Refusal),
+}
+
+// What start-up gives.
+pub struct Started {
+    pub verdict: Verdict,
+    pub state: State,
+}
+
+// How many bytes a call wrote to the buffer that it was lent.
+pub struct Written {
+    pub length: usize,
+}
+
+// What a command call, a slot call and the command writer answer.
+pub enum Answer {
+    Refused(Refusal),
+    Done(Written),
+}
+
+// A command packet's fields. The eleven data words of a load stand beside it.
+pub struct Telecommand {
+    pub header: Header,
+    pub command: Command,
+}
+
+// What the command reader answers.
+pub enum Reading {
+    Unread(Refusal),
+    Read(Telecommand),
+}
+
+// What the command reader gives: its answer, and the eleven data words of a load beside it, or zeros.
+pub struct CommandRead {
+    pub reading: Reading,
+    pub words: [u32; 11],
+}
+
+// A dump packet's fields: what was requested, the address of this packet's data, and how many words it has.
+pub struct DumpPacket {
+    pub header: Header,
+    pub tick: u32,
+    pub range: Range,
+    pub here: Address,
+    pub words: u32,
+}
+
+// What the dump packet reader answers.
+pub enum PacketReading {
+    NoPacket(Refusal),
+    Packet(DumpPacket),
+}
+
+// The theorems. These functions do nothing: the contract of each is what is proved.
+
+// E1 to E12.
+pub fn checked_examples()
+    ensures { λ r. ⌜ Examples ⌝ }
+{}
+
+// Safe, exact refusals.
+pub fn demand_1()
+    ensures { λ r. ⌜ Demand1 ⌝ }
+{}
+
+// Exact effect.
+pub fn demand_2()
+    ensures { λ r. ⌜ Demand2 ⌝ }
+{}
+
+// No dump waits for ever.
+pub fn demand_3()
+    ensures { λ r. ⌜ Demand3 ⌝ }
+{}
