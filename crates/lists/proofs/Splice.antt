@@ -4,9 +4,10 @@ use mathlib.Core.Path.{_≡_, refl, sym, ap, _∙_}
 use mathlib.Core.List.{List, [], _∷_, _++_}
 use Prim.Native.Nat.{ℕ, zero, suc, _+_, _-_, _≤_, _<_}
 use native.Mathlib.Nat.{zero-add}
+use native.Mathlib.Numerals.{add-one}
 use native.Mathlib.Omega.{arith}
-use lib.ListN.{length, getD, take, drop, length-append, length-take, length-drop, List·getD-append}
-use lib.Seq.{getD-append-add, getD-take, getD-drop, length-take-le, take-append-seam, drop-append-seam}
+use lib.ListN.{length, getD, set, take, drop, length-append, length-take, length-drop, List·getD-append}
+use lib.Seq.{getD-append-add, getD-take, getD-drop, length-take-le, take-append-seam, drop-append-seam, drop-cons, set-at, append-snoc}
 use Rattle.lists.specs.Splice.{splice}
 
 module _ (l : List ℕ) (at : ℕ) (v : List ℕ) (fits : at + length v ≤ length l) where
@@ -50,3 +51,16 @@ splice-front l v = take-append-seam v (drop (0 + length v) l)
 pub splice-rest : (l v : List ℕ) → drop (length v) (splice l 0 v) ≡ drop (length v) l
 unfolding splice
 splice-rest l v = drop-append-seam v (drop (0 + length v) l) ∙ ap (λ (n : ℕ). drop n l) (zero-add (length v))
+
+-- two runs of the same length that leave the same are the same
+pub splice-same : (l v w : List ℕ) → length v ≡ length w → splice l 0 v ≡ splice l 0 w → v ≡ w
+splice-same l v w n e =
+    sym (splice-front l v) ∙ ap (take (length v)) e ∙ ap (λ (m : ℕ). take m (splice l 0 w)) n ∙ splice-front l w
+
+-- one store of a loop that fills a list from its start
+pub fill-turn : (xs l : List ℕ) (i v : ℕ) → length xs ≡ i → i < length l → set (xs ++ drop i l) i v ≡ (xs ++ (v ∷ [])) ++ drop (i + 1) l
+fill-turn xs l i v e h =
+    ap (λ (m : List ℕ). set (xs ++ m) i v) (drop-cons l i 0 h)
+    ∙ set-at xs _ _ v i e
+    ∙ sym (append-snoc xs v (drop (suc i) l))
+    ∙ ap (λ (k : ℕ). (xs ++ (v ∷ [])) ++ drop k l) (sym (add-one i))

@@ -16,7 +16,8 @@ use Rattle.rules.specs.States.{contextAt, busyWith}
 use Rattle.rules.specs.Packets.{versionOf, typeOf, secondHeaderOf, sequenceFlagsOf, lengthFieldOf, zeroBitOf, primaryRules, wellFormed, apidOf, functionCodeOf, requestOf, decode, fieldRules, commandUnit, commandTransaction}
 use Rattle.rules.specs.Pools.{blocksOf, isDamaged}
 use Rattle.rules.specs.Commands.{CommandArgs, isIdle, anyWith, anyIdle, poolWords}
-use Rattle.rules.specs.Demand2.{ForThisBox, rangeOf, DumpAllowed, CancelAllowed, LoadAllowed, poolOf, PoolAllowed}
+use Rattle.rules.specs.Demand2.{ForThisBox, DumpAllowed, CancelAllowed, LoadAllowed, PoolAllowed}
+use Rattle.rules.specs.Cases.{Formed, rangeOf, poolOf}
 use Rattle.rules.specs.declared.Context.{Context}
 use Rattle.rules.specs.declared.Context.the-variants.{Idle, Busy}
 use Rattle.rules.specs.declared.Command.the-variants.{Dump, Cancel, Load, PoolStatistics}
@@ -28,10 +29,10 @@ use Rattle.rules.proofs.Passed.{Tested, undamaged}
 
 -- THE LAYOUT OF EVERY COMMAND
 
-module _ (s : State) (p : List ℕ) where
-  pub box-out : wellFormed p ≡ true → apidOf p ≡ 1604 → commandUnit p ≡ s .unit → ForThisBox s p
+module _ (p : List ℕ) where
+  pub formed-out : wellFormed p ≡ true → Formed p
   unfolding wellFormed
-  box-out h apid unit =
+  formed-out h =
       let b = leb 8 (length p) in
       let z = eqb (zeroBitOf p) 0 in
       let x = eqb (xorAll p) 255 in
@@ -55,13 +56,11 @@ module _ (s : State) (p : List ℕ) where
         length-field = eqb-true _ _ (and-right (v && t && s && f) l k4);
         zero-bit = eqb-true _ _ (and-right (b && primaryRules 1 1 p) z h2);
         check = eqb-true _ _ (and-right (b && primaryRules 1 1 p && z) x h);
-        apid = apid;
-        unit = unit;
       }
 
-  pub box-in : ForThisBox s p → wellFormed p ≡ true
+  pub formed-in : Formed p → wellFormed p ≡ true
   unfolding wellFormed
-  box-in b = and-both (and-both (and-both (le-leb _ _ (b .bytes)) header) (eq-eqb _ _ (b .zero-bit))) (eq-eqb _ _ (b .check))
+  formed-in b = and-both (and-both (and-both (le-leb _ _ (b .bytes)) header) (eq-eqb _ _ (b .zero-bit))) (eq-eqb _ _ (b .check))
     where
       header : primaryRules 1 1 p ≡ true
       header =
@@ -70,6 +69,13 @@ module _ (s : State) (p : List ℕ) where
           (and-both (and-both (eq-eqb _ _ (b .version)) (eq-eqb _ _ (b .type))) (eq-eqb _ _ (b .second-header)))
           (eq-eqb _ _ (b .sequence-flags)))
           (eq-eqb _ _ (b .length-field))
+
+module _ (s : State) (p : List ℕ) where
+  pub box-out : wellFormed p ≡ true → apidOf p ≡ 1604 → commandUnit p ≡ s .unit → ForThisBox s p
+  box-out h apid unit = record { formed = formed-out p h; apid = apid; unit = unit }
+
+  pub box-in : ForThisBox s p → wellFormed p ≡ true
+  box-in b = formed-in p (b .formed)
 
 -- THE COMMAND OF A FUNCTION CODE
 

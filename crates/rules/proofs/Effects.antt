@@ -17,7 +17,8 @@ use Rattle.rules.specs.States.{poolAt}
 use Rattle.rules.specs.Packets.{decode, requestOf, commandTransaction, dataWords}
 use Rattle.rules.specs.Pools.{Block, whole, replyBytes}
 use Rattle.rules.specs.Commands.{CommandArgs, isIdle, firstIdle, firstWith, setContext, poolWords, replied, carryOut, commandCall}
-use Rattle.rules.specs.Demand2.{rangeOf, poolOf, IsAccepted, OnePlace, DumpAllowed, DumpDone, CancelAllowed, CancelDone, LoadAllowed, LoadDone, PoolAllowed, PoolDone, Effects}
+use Rattle.rules.specs.Demand2.{IsAccepted, OnePlace, DumpAllowed, DumpDone, CancelAllowed, CancelDone, LoadAllowed, LoadDone, PoolAllowed, PoolDone, Effects}
+use Rattle.rules.specs.Cases.{rangeOf, poolOf}
 use Rattle.rules.specs.declared.Command.the-variants.{Dump, Cancel, Load, PoolStatistics}
 use Rattle.rules.specs.declared.Context.{Context}
 use Rattle.rules.specs.declared.Decoded.{Decoded}
@@ -27,7 +28,7 @@ use Rattle.rules.specs.declared.State.{State}
 use Rattle.rules.proofs.Table.{holds-any, one-out, one-in, one-any, image-fits, image-index, range-low, words-length}
 use Rattle.rules.proofs.Good.{GoodIs, good-out, context-same, context-other}
 use Rattle.rules.proofs.Rules.{StartIs, start-out, pool-out as rules-pool}
-use Rattle.rules.proofs.Pools.{tiles-blocks, tiles-words, figures-fit, reply-figures}
+use Rattle.rules.proofs.Pools.{tiles-blocks, tiles-words, figures-fit, reply-figures, reply-head, reply-head}
 use Rattle.rules.proofs.Passed.{Passed, passed-out, accepted-call, tests-of}
 use Rattle.rules.proofs.Allowed.{decode-dump, decode-cancel, decode-load, decode-pool, dump-out, cancel-out, load-out, pool-out, idle-out, idleAt, numberAt}
 
@@ -135,6 +136,7 @@ module _ (s : State) (c : CommandArgs) (h : IsAccepted s c) where
   pool-replied a =
       let v = replyBytes (s .replies) (s .unit) (commandTransaction (c .packet)) (poolOf (c .packet)) (a .blocks .0) in
       let e : length v ≡ 32 = reply-length _ _ _ _ _ in
+      let head = reply-head (s .replies) (s .unit) (commandTransaction (c .packet)) (poolOf (c .packet)) (a .blocks .0) (c .reply) (good .replies) (start .low) (omega arith) (omega arith) in
       let fit = figures-fit (a .blocks .1) (rw (pool-length a) (pool-low a)) in
       record {
         found = a .blocks .0;
@@ -142,6 +144,10 @@ module _ (s : State) (c : CommandArgs) (h : IsAccepted s c) where
         figures = reply-figures _ _ _ _ (a .blocks .0) (c .reply) fit;
         size = tiles-words (a .blocks .1) ∙ pool-length a;
         reported = refl;
+        primary = head .0;
+        apid = head .1;
+        header = head .2;
+        pool = head .3;
         reply = rw e at (splice-front (c .reply) v);
         rest = rw e at (splice-rest (c .reply) v);
         state = refl;

@@ -1,9 +1,11 @@
 -- Demand 2, from its parts.
 -- Assumes nothing.
 use Rattle.rules.specs.Demand2.{Demand2}
+use Rattle.rules.proofs.Pools.{figures-are, block-bits}
+use Rattle.rules.proofs.GoodWhen.{region-when, start-when, good-when}
 use Rattle.rules.proofs.AcceptedWhen.{accepted-when}
 use Rattle.rules.proofs.Effects.{effects}
-use Rattle.rules.proofs.Located.{located}
+use Rattle.rules.proofs.Located.{image-first, image-next, image-word, bits, located}
 use Rattle.rules.proofs.Slot.{slot}
 use Rattle.rules.proofs.StaysGood.{command-good, slot-good, start-good}
 
@@ -13,7 +15,16 @@ demand-2 =
       accepted-when = accepted-when;
       effects = effects;
       slot = slot;
+      figures-are = figures-are;
+      block-bits = block-bits;
+      region-when = region-when;
+      start-when = start-when;
+      good-when = good-when;
       located = located;
+      image-first = image-first;
+      image-next = image-next;
+      image-word = image-word;
+      bits = bits;
       command-good = command-good;
       slot-good = slot-good;
       start-good = start-good;

@@ -22,6 +22,7 @@ examples =
       e1-e2 = refl;
       e2 = refl;
       e3 = refl;
+      e3-answer = refl;
       e3-image = refl;
       e4 = refl;
       e5 = refl;
@@ -33,6 +34,7 @@ examples =
       e8-slots = refl;
       e9 = refl;
       e10 = refl;
-      e11 = refl;
+      e11 = λ w x y z. refl;
+      e11-answer = λ w x y z. refl;
       e12 = refl;
     }

@@ -64,10 +64,10 @@ packet-keeps-length s tick d image buffer l =
 -- A COMMAND
 
 -- a load has eleven words, used or not
-used-length : (size : ℕ) (ws : List ℕ) → length (usedWords size ws) ≡ 11
+pub used-length : (size : ℕ) (ws : List ℕ) → length (usedWords size ws) ≡ 11
 used-length size ws = simp (length-take, length-append, length-replicate) (omega arith)
 
-body-length : (k : Command) (ws : List ℕ) → 10 + length (bodyBytes k ws) ≡ packetLength k
+pub body-length : (k : Command) (ws : List ℕ) → 10 + length (bodyBytes k ws) ≡ packetLength k
 body-length (Dump q) ws = refl
 body-length Cancel ws = refl
 body-length (Load q) ws = let b = word-bytes-length (usedWords (q .size) ws) in let u = used-length (q .size) ws in omega arith

@@ -19,7 +19,8 @@ use Rattle.rules.specs.Pools.{Walk, damaged, whole, blocksOf}
 use Rattle.rules.specs.Results.{counted, answerNumber, lowest, lentRows}
 use Rattle.rules.specs.Commands.{CommandArgs, commandRows, changed, refusedMore, refusedCommand, newDump, poolWords, replied, carryOut, conclude, commandCall}
 use Rattle.rules.specs.Slots.{SlotArgs, longestPacket, slotRows, nextPlace, serve, concludeSlot, slotCall}
-use Rattle.rules.specs.Demand2.{Demand2, IsAccepted, OnePlace, afterCommand, rangeOf, poolOf, DumpAllowed, DumpDone, CancelDone, LoadDone, PoolDone, SlotDone}
+use Rattle.rules.specs.Demand2.{Demand2, IsAccepted, OnePlace, afterCommand, DumpAllowed, DumpDone, CancelDone, LoadDone, PoolDone, SlotDone}
+use Rattle.rules.specs.Cases.{rangeOf, poolOf}
 use Rattle.rules.specs.Demand3.{Call, command, slot, LendsBytes, step, Event, events, Asked, nothing, dump, cancel, asked, isDump, isCancel, accepts, cancels, writes, counts}
 use Rattle.rules.specs.declared.ActiveDump.{ActiveDump}
 use Rattle.rules.specs.declared.Place.{Place}

@@ -22,6 +22,7 @@ use Rattle.rules.specs.Commands.{newDump}
 use Rattle.rules.specs.Slots.{placeAfter, afterPacket}
 use Rattle.rules.specs.Demand3.{Event, Accepted, accepts, cancels, writes, counts, packets, packetsDue, Shows}
 use Rattle.rules.proofs.Cover.{due-before, due-last}
+use Rattle.rules.proofs.AfterPacket.{piece-some, moved, after-more, after-last}
 use Rattle.rules.proofs.Watch.{Quiet, quiet, again, skip, Watch, ended, other, passed, packet, final}
 
 -- THE FOUR LAWS: what a call may do to the places and to the last place served, and how that is seen from outside
@@ -92,22 +93,6 @@ same-busy : {a : Context} {d d′ : ActiveDump} → a ≡ Busy d → a ≡ Busy 
 same-busy p q = cc
 
 -- THE DUMP AFTER ITS PACKET
-
-pub piece-some : (r : Range) → 0 < pieceWords r
-unfolding pieceWords
-piece-some r = omega arith
-
--- the dump with one more packet sent
-abbrev moved : ActiveDump → ActiveDump
-moved d = record { transaction = d .transaction; range = d .range; sent = d .sent + pieceWords (d .range) }
-
-after-more : (d : ActiveDump) → d .sent + pieceWords (d .range) < d .range .words → afterPacket d ≡ Busy (moved d)
-unfolding afterPacket
-after-more d h = rw (lt-ltb (d .sent + pieceWords (d .range)) (d .range .words) h)
-
-after-last : (d : ActiveDump) → d .range .words ≤ d .sent + pieceWords (d .range) → afterPacket d ≡ Idle
-unfolding afterPacket
-after-last d h = rw (le-ltb (d .sent + pieceWords (d .range)) (d .range .words) h)
 
 after-other : (t : ℕ) (d : ActiveDump) → eqb (d .transaction) t ≡ false → busyWith t (afterPacket d) ≡ false
 after-other t d h =

@@ -9,7 +9,8 @@ use lib.Dec.{ltb, eqb}
 use borrow.Author.Tests.{ltb-true, eq-eqb, ne-eqb}
 use Rattle.lists.proofs.Tests.{either, contra, and-left, and-right, by-order}
 use Rattle.rules.specs.Results.{number, counted, verdictNumber, Row, lowest}
-use Rattle.rules.specs.Demand1.{numbersOf, applies, Lowest, keepsState, countsRefused}
+use Rattle.rules.specs.Demand1.{numbersOf, Lowest, keepsState, countsRefused}
+use Rattle.rules.specs.Cases.{applies}
 use Rattle.rules.specs.declared.Refusal.{Refusal}
 use Rattle.rules.specs.declared.Refusal.the-variants.{BadState, ImageLength, BufferLength, Malformed, OtherApid, UnknownCode, PacketLength, OtherUnit, BadField, OutsideRegions, NoRight, TransactionBusy, PlacesBusy, NotBusy, PoolDamaged, NothingToSend, BadTable}
 use Rattle.rules.specs.declared.Verdict.{Verdict}

@@ -12,7 +12,7 @@ use Rattle.rules.specs.Demand3.{Demand3}
 use Rattle.rules.specs.declared.Range.{Range}
 use Rattle.rules.specs.declared.Region.{Region}
 use Rattle.rules.proofs.Cover.{pieces-cover}
-use Rattle.rules.proofs.Laws.{piece-some}
+use Rattle.rules.proofs.AfterPacket.{piece-some}
 use Rattle.rules.proofs.Served.{chain-served}
 use Rattle.rules.proofs.Lawful.{chain, same-table}
 
@@ -23,11 +23,16 @@ unfolding startUp
 start-table rs n pools unit h =
     either (startRules rs n pools unit) (λ e. rw e (refl, refl)) (λ e. absurd (omega (arith, rw e at h)))
 
+piece-size : (r : Range) → pieceWords r ≡ 1016
+unfolding pieceWords
+piece-size r = refl
+
 pub demand-3 : Demand2 → Demand3
 demand-3 D rs n pools unit h calls bytes =
     let s = startUp rs n pools unit .state in
     let good = D .start-good rs n pools unit h in
     let table = start-table rs n pools unit h in (
+      piece-size,
       λ xs ys e x. let r = same-table D s calls good bytes xs ys e x in (r .0 ∙ table .0, r .1 ∙ table .1),
       λ before after e t r x a un. (
         chain-served t r before (rw x at (chain D s calls good bytes)) a un,

@@ -3,19 +3,20 @@
 use mathlib.Core.Path.{_≡_, refl, sym, ap, _∙_}
 use mathlib.Core.Bool.{Bool, true, false, cond, not}
 use mathlib.Core.List.{List, [], _∷_, _++_}
-use Prim.Native.Nat.{ℕ, zero, suc, _+_, _-_, _≤_, _<_}
+use Prim.Native.Nat.{ℕ, zero, suc, _+_, _-_, max, _≤_, _<_}
 use native.Mathlib.Omega.{arith}
 use native.Mathlib.Nat.{zero-add, pos-of-ne-zero}
-use lib.Dec.{eqb}
+use lib.Dec.{leb, eqb}
 use lib.ListN.{length, take, drop, length-append, take-append-drop}
 use lib.Seq.{length-take-le}
-use borrow.Author.Tests.{eqb-false, ne-eqb}
-use Rattle.lists.proofs.Tests.{either}
+use borrow.Author.Tests.{eqb-false, ne-eqb, lt-leb, le-leb}
+use Rattle.lists.proofs.Tests.{either, by-lt}
 use Rattle.lists.specs.Splice.{splice}
-use Rattle.wire.specs.Bytes.{wordsAt}
+use Rattle.wire.specs.Bytes.{beAt, wordsAt}
 use Rattle.wire.proofs.Numbers.{be-back}
-use Rattle.rules.specs.Pools.{Block, blockOf, Walk, damaged, whole, after, blocksFrom, blocksOf, words, blocks, largest, isFree, isUsed, replyBytes}
-use Rattle.rules.specs.Demand2.{Tiles, end, next}
+use Rattle.rules.specs.Pools.{Block, blockOf, Walk, damaged, whole, after, blocksFrom, blocksOf, words, blocks, largest, isFree, isUsed, replyBytes, Tiles, end, next}
+use Rattle.rules.specs.Packets.{primaryRules, apidOf, headerAt, sequenceFlagsOf, sequenceCountOf, unitAt, transactionAt}
+use Rattle.rules.specs.Demand2.{picked, sizeSum, sizeAt, FiguresAre, BlockBits}
 
 -- the rest of a block is passed over
 pass : (rest ws : List ℕ) → blocksFrom (length rest) (rest ++ ws) ≡ blocksFrom 0 ws
@@ -119,4 +120,78 @@ reply-figures count unit t pool bs buffer f =
       be-back 4 (largest isFree bs) (f .largest-free),
       be-back 4 (words isUsed bs) (f .used-words),
       be-back 4 (blocks isUsed bs) (f .used-blocks),
+    )
+
+-- THE FIGURES IN LOGIC
+
+-- over the blocks that a test picks
+module _ (pick : Block → Bool) where
+  picked-words : (bs : List Block) → words pick bs ≡ sizeSum (picked pick bs)
+  picked-words [] = refl
+  picked-words (b ∷ bs) =
+      let h = picked-words bs in
+      either (pick b) (λ e. rw e (omega arith)) (λ e. rw e (omega arith))
+
+  picked-blocks : (bs : List Block) → blocks pick bs ≡ length (picked pick bs)
+  picked-blocks [] = refl
+  picked-blocks (b ∷ bs) =
+      let h = picked-blocks bs in
+      either (pick b) (λ e. rw e (omega arith)) (λ e. rw e (omega arith))
+
+  picked-bounds : (bs : List Block) (i : ℕ) → sizeAt (picked pick bs) i ≤ largest pick bs
+  picked-bounds [] i = omega arith
+  picked-bounds (b ∷ bs) i =
+      either (pick b)
+      (λ e. rw e (at i (λ j. picked-bounds bs j)))
+      (λ e. let h = picked-bounds bs i in rw e (omega arith))
+    where
+      at : (i : ℕ) → ((j : ℕ) → sizeAt (picked pick bs) j ≤ largest pick bs) → sizeAt (b ∷ picked pick bs) i ≤ max (b .size) (largest pick bs)
+      at zero f = omega arith
+      at (suc j) f = let h = f j in omega arith
+
+  picked-reached : (bs : List Block) → (i : ℕ) × (largest pick bs ≡ sizeAt (picked pick bs) i)
+  picked-reached [] = (0, refl)
+  picked-reached (b ∷ bs) =
+      let r = picked-reached bs in
+      either (pick b)
+      (λ e. rw e
+      (by-lt (b .size) (largest pick bs)
+      (λ l. let h : max (b .size) (largest pick bs) ≡ largest pick bs = omega arith in (suc (r .0), h ∙ r .1))
+      (λ l. let h : max (b .size) (largest pick bs) ≡ b .size = omega arith in (0, h))))
+      (λ e. rw e (let h : max 0 (largest pick bs) ≡ largest pick bs = omega arith in (r .0, h ∙ r .1)))
+
+pub figures-are : (bs : List Block) → FiguresAre bs
+figures-are bs =
+    record {
+      free-words = picked-words isFree bs;
+      free-blocks = picked-blocks isFree bs;
+      used-words = picked-words isUsed bs;
+      used-blocks = picked-blocks isUsed bs;
+      bounds = picked-bounds isFree bs;
+      reached = picked-reached isFree bs;
+    }
+
+pub block-bits : (w : ℕ) → w < 4294967296 → BlockBits w
+block-bits w h =
+    by-lt w 2147483648
+    (λ l. let e : leb 2147483648 w ≡ false = lt-leb 2147483648 w l in rw e (omega arith, omega arith))
+    (λ l. let e : leb 2147483648 w ≡ true = le-leb 2147483648 w l in rw e (omega arith, omega arith))
+
+-- the fields before the figures
+pub reply-head : (count unit t pool : ℕ) (bs : List Block) (buffer : List ℕ) → count ≤ 16383 → unit ≤ 15 → t ≤ 4095 → pool ≤ 65535
+    → (primaryRules 0 0 (take 32 (splice buffer 0 (replyBytes count unit t pool bs))) ≡ true)
+    × (apidOf (splice buffer 0 (replyBytes count unit t pool bs)) ≡ 785)
+    × (headerAt (splice buffer 0 (replyBytes count unit t pool bs)) 6 ≡ record { count = count; unit = unit; transaction = t })
+    × ((beAt 2 (splice buffer 0 (replyBytes count unit t pool bs)) 8 ≡ pool) × (beAt 2 (splice buffer 0 (replyBytes count unit t pool bs)) 10 ≡ 0))
+unfolding splice replyBytes
+reply-head count unit t pool bs buffer hc hu ht hp =
+    let p = splice buffer 0 (replyBytes count unit t pool bs) in
+    let f : sequenceFlagsOf p ≡ 3 = omega arith in
+    let c : sequenceCountOf p ≡ count = omega arith in
+    let u : unitAt p 6 ≡ unit = omega arith in
+    let v : transactionAt p 6 ≡ t = omega arith in (
+      rw f,
+      refl,
+      (λ i. record { count = c i; unit = u i; transaction = v i }),
+      (omega arith, refl),
     )

@@ -10,7 +10,7 @@ use lib.ListN.{length}
 use borrow.Author.Tests.{eqb-true, ltb-false, not-false}
 use Rattle.lists.proofs.Tests.{either, contra}
 use Rattle.rules.specs.Regions.{imageLength, tableRules}
-use Rattle.rules.specs.States.{startRules, startUp, noState, goodState, contextAt}
+use Rattle.rules.specs.States.{entriesUsed, startRules, startUp, noState, goodState, contextAt}
 use Rattle.rules.specs.Packets.{decode}
 use Rattle.rules.specs.Pools.{Walk, damaged, whole, blocksOf, isDamaged, replyLength}
 use Rattle.rules.specs.Results.{answerLength, verdictNumber, answerNumber, lowest, lentRows}
@@ -35,6 +35,7 @@ use Rattle.rules.proofs.Good.{good-out}
 use Rattle.rules.proofs.LowestNumber.{number-some, number-counts, number-keeps, lowest-number, test-passed}
 use Rattle.rules.proofs.Fits.{load-keeps-length, reply-keeps-length, packet-keeps-length, command-keeps-length}
 use Rattle.rules.proofs.Round.{next-busy}
+use Rattle.rules.proofs.Cases.{command-cases, slot-cases}
 
 -- THE COMMAND CALL
 
@@ -97,6 +98,7 @@ module _ (s : State) (c : CommandArgs) where
   command-accepted e o is =
       record {
         numbers = refl;
+        cases = command-cases s c;
         lowest = rw (is .done) (command-lowest Accepted e);
         kept = λ n. absurd (n (is .done));
         same = λ k. absurd (contra (rw (is .done) at k) refl);
@@ -110,6 +112,7 @@ module _ (s : State) (c : CommandArgs) where
   command-refused r e =
       record {
         numbers = refl;
+        cases = command-cases s c;
         lowest = command-lowest (Rejected r) e;
         kept = λ n. (refl, refl, refl);
         same = λ k. rw (number-keeps r k);
@@ -150,6 +153,7 @@ module _ (s : State) (c : SlotArgs) where
   slot-refused r e =
       record {
         numbers = refl;
+        cases = slot-cases s c;
         lowest = slot-lowest (Rejected r) e;
         kept = λ n. (refl, refl, refl);
         image = refl;
@@ -163,6 +167,7 @@ module _ (s : State) (c : SlotArgs) where
   slot-served e p (Busy d) b =
       record {
         numbers = refl;
+        cases = slot-cases s c;
         lowest = slot-lowest Accepted e;
         kept = λ n. absurd (n refl);
         image = refl;
@@ -181,7 +186,7 @@ module _ (s : State) (c : SlotArgs) where
 -- START-UP
 
 start-refusals : (rs : List Region) (n : ℕ) (pools : List Range) (unit : ℕ) → StartRefusals rs n pools unit
-unfolding startUp
+unfolding startUp entriesUsed
 start-refusals rs n pools unit =
     either (startRules rs n pools unit)
     (λ e.
@@ -189,12 +194,14 @@ start-refusals rs n pools unit =
       ready = rw e (λ z. refl, λ z. refl);
       refused = rw e (λ z. absurd (omega arith), λ z. absurd (contra refl z));
       nothing = rw e (λ z. absurd (omega arith));
+      fresh = rw e (λ z. refl);
     })
     (λ e.
     record {
       ready = rw e (λ z. absurd (omega arith), λ z. absurd (contra z refl));
       refused = rw e (λ z. refl, λ z. refl);
       nothing = rw e (λ z. refl);
+      fresh = rw e (λ z. absurd (omega arith));
     })
 
 -- THE GROUND

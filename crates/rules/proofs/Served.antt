@@ -18,7 +18,8 @@ use Rattle.rules.specs.Commands.{newDump}
 use Rattle.rules.specs.Demand3.{Event, Accepted, accepts, packets, packetsDue, Shows, Uncancelled, Served}
 use Rattle.rules.proofs.Cover.{due-before}
 use Rattle.rules.proofs.Watch.{Watch, bound, pace, soon, shows}
-use Rattle.rules.proofs.Laws.{kept, accepted, cancelled, served, Chain, next, Mine, Near, UncancelledFrom, puts-at, piece-some, watch}
+use Rattle.rules.proofs.Laws.{kept, accepted, cancelled, served, Chain, next, Mine, Near, UncancelledFrom, puts-at, watch}
+use Rattle.rules.proofs.AfterPacket.{piece-some}
 
 accepts-it : (t : ℕ) (r : Range) (e : Event) → Accepted t r e → accepts t e ≡ true
 unfolding accepts

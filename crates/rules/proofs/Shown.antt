@@ -27,25 +27,25 @@ use Rattle.rules.proofs.Located.{good-table}
 -- THE BYTES
 
 module _ (s : State) (tick : ℕ) (d : ActiveDump) (ws : List ℕ) where
-  packet-number : (rest : List ℕ) → d .transaction ≤ 4095 → transactionAt (packetBytes s tick d ws ++ rest) 6 ≡ d .transaction
+  pub packet-number : (rest : List ℕ) → d .transaction ≤ 4095 → transactionAt (packetBytes s tick d ws ++ rest) 6 ≡ d .transaction
   unfolding packetBytes
   packet-number rest h = omega arith
 
-  packet-data : drop packetHeader (packetBytes s tick d ws) ≡ wordBytes ws
+  pub packet-data : drop packetHeader (packetBytes s tick d ws) ≡ wordBytes ws
   unfolding packetBytes
   packet-data = refl
 
-  packet-range : startOf (d .range) < 4294967296 → d .range .words < 4294967296 → packetFields (packetBytes s tick d ws) .range ≡ d .range
+  pub packet-range : startOf (d .range) < 4294967296 → d .range .words < 4294967296 → packetFields (packetBytes s tick d ws) .range ≡ d .range
   unfolding packetBytes
   packet-range a b i =
       record { start = record { 0 = be-back 4 (startOf (d .range)) a i }; words = be-back 4 (d .range .words) b i }
 
-  packet-address : startOf (d .range) + 4 * d .sent < 4294967296
+  pub packet-address : startOf (d .range) + 4 * d .sent < 4294967296
       → packetFields (packetBytes s tick d ws) .here .0 ≡ startOf (d .range) + 4 * d .sent
   unfolding packetBytes
   packet-address h = be-back 4 (startOf (d .range) + 4 * d .sent) h
 
-  packet-count : length ws < 4294967296 → packetFields (packetBytes s tick d ws) .words ≡ length ws
+  pub packet-count : length ws < 4294967296 → packetFields (packetBytes s tick d ws) .words ≡ length ws
   unfolding packetBytes
   packet-count h = be-back 4 (length ws) h
 
@@ -63,7 +63,7 @@ unfolding nextWords
 next-piece s image d h = rw (sent-pieces d h)
 
 module _ (s : State) (c : SlotArgs) (o : Outcome) (x : SlotDone s c o) (good : goodState s ≡ true) where
-  served-dump : DumpIs (s .regions) (s .count) (x .dump)
+  pub served-dump : DumpIs (s .regions) (s .count) (x .dump)
   served-dump =
       let g : GoodIs s = good-out s good in
       dump-out (s .regions) (s .count) (x .dump) (rw (x .busy) at (g .places .each (placeAfter (s .last) (x .k)) (omega arith)))

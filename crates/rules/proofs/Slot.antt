@@ -24,6 +24,7 @@ use Rattle.rules.specs.declared.Context.{Context}
 use Rattle.rules.specs.declared.Context.the-variants.{Idle, Busy}
 use Rattle.rules.specs.declared.Place.{Place}
 use Rattle.rules.specs.declared.State.{State}
+use Rattle.rules.proofs.AfterPacket.{sent-more, sent-all}
 use Rattle.rules.proofs.Fits.{packet-length, next-most}
 use Rattle.rules.proofs.Good.{context-same, context-other, good-out}
 use Rattle.rules.proofs.Round.{any-busy-out, any-busy-in, Stops, round-stops}
@@ -50,6 +51,8 @@ module _ (s : State) (c : SlotArgs) (good : goodState s ≡ true) (image : lengt
         reported = l;
         longest = omega arith;
         now = context-same (s .places) p (afterPacket d) (omega arith);
+        more = λ h. context-same (s .places) p (afterPacket d) (omega arith) ∙ sent-more d h;
+        freed = λ h. context-same (s .places) p (afterPacket d) (omega arith) ∙ sent-all d h;
         others =
             record {
               in-four = omega arith;

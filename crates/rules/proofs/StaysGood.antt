@@ -10,7 +10,7 @@ use native.Mathlib.Omega.{arith}
 use lib.Dec.{leb, ltb, eqb}
 use lib.ListN.{replicate}
 use borrow.Author.Tests.{leb-true, ltb-true, eqb-true, not-false}
-use Rattle.lists.proofs.Tests.{either, contra, and-left, and-right}
+use Rattle.lists.proofs.Tests.{either, contra, and-left, and-right, by-lt}
 use Rattle.lists.proofs.Below.{none-at, first-found}
 use Rattle.wire.specs.Bytes.{AreBytes}
 use Rattle.rules.specs.Regions.{startOf, aligned}
@@ -36,6 +36,7 @@ use Rattle.rules.specs.declared.Request.{Request}
 use Rattle.rules.specs.declared.State.{State}
 use Rattle.rules.specs.declared.Verdict.{Verdict}
 use Rattle.rules.specs.declared.Verdict.the-variants.{Accepted, Rejected}
+use Rattle.rules.proofs.AfterPacket.{moved, after-more, after-last}
 use Rattle.rules.proofs.Good.{DumpIs, dump-out, dump-in, Apart, PlacesAre, places-keep, GoodIs, good-out, good-in}
 use Rattle.rules.proofs.Passed.{Tested, tests-passed}
 use Rattle.rules.proofs.Rules.{replicate-at, used-region, same-rules}
@@ -157,12 +158,12 @@ command-good s c bytes good = good-in (commandCall s c .state) (concluded (lowes
 -- what a dump is after its next packet: by the rules, and apart from whatever it was apart from
 module _ (d : ActiveDump) where
   after-rules : (rs : List Region) (n : ℕ) → dumpRules rs n d ≡ true → contextRules rs n (afterPacket d) ≡ true
-  unfolding afterPacket
   after-rules rs n h =
       let z = pieceWords (d .range) in
       let is = dump-out rs n d h in
-      either (ltb (d .sent + z) (d .range .words))
-      (λ e. rw e (dump-in rs n _
+      by-lt (d .sent + z) (d .range .words)
+      (λ o. rw (after-more d o)
+      (dump-in rs n (moved d)
       (record {
         number = is .number;
         some = is .some;
@@ -170,16 +171,15 @@ module _ (d : ActiveDump) where
         multiple = is .multiple;
         region = is .region;
         cut = add-mod-right (d .sent) z ∙ is .cut;
-        more = ltb-true _ _ e;
+        more = o;
       })))
-      (λ e. rw e)
+      (λ o. rw (after-last d o))
 
   after-apart : (b : Context) → Apart (Busy d) b → Apart (afterPacket d) b
-  unfolding afterPacket
   after-apart b f t =
-      either (ltb (d .sent + pieceWords (d .range)) (d .range .words))
-      (λ e. rw e (f t))
-      (λ e. rw e (λ k. absurd (contra k refl)))
+      by-lt (d .sent + pieceWords (d .range)) (d .range .words)
+      (λ o. rw (after-more d o) (f t))
+      (λ o. rw (after-last d o) (λ k. absurd (contra k refl)))
 
 module _ (s : State) (c : SlotArgs) (g : GoodIs s) where
   served-good : (p : ℕ) (a : Context) → p < 4 → contextAt (s .places) p ≡ a → GoodIs (serve s c p a .state)
@@ -211,10 +211,10 @@ slot-good s c good = good-in (slotCall s c .state) (concluded (lowest (slotRows 
 -- START-UP
 
 -- places that are all idle
-idle-places : (i : ℕ) → contextAt (replicate 4 idlePlace) i ≡ Idle
+pub idle-places : (i : ℕ) → contextAt (replicate 4 idlePlace) i ≡ Idle
 idle-places i = ap (λ (p : Place). p .context) (replicate-at 4 i idlePlace)
 
-fresh-good : (rs : List Region) (n : ℕ) (ps : List Range) (unit : ℕ) → startRules rs n ps unit ≡ true → GoodIs (freshState rs n ps unit)
+pub fresh-good : (rs : List Region) (n : ℕ) (ps : List Range) (unit : ℕ) → startRules rs n ps unit ≡ true → GoodIs (freshState rs n ps unit)
 fresh-good rs n ps unit h =
     record {
       rules = h;

@@ -12,7 +12,7 @@ use Rattle.lists.specs.Below.{allBelow, sumBelow}
 use Rattle.lists.proofs.Tests.{either, contra, and-left, and-right, and-both, by-order}
 use Rattle.lists.proofs.Below.{all-at, any-of, any-at, first-found, sum-part}
 use Rattle.rules.specs.Regions.{startOf, endOf, aligned, within, regionAt, rangeAt, endBefore, regionRules, tableRules, anyRight, holds, inOneRegion, wordsBelow, imageLength, regionOf, indexIn, imageIndex, wordsOf}
-use Rattle.rules.specs.Demand2.{LiesIn}
+use Rattle.rules.specs.GoodWhen.{LiesIn}
 use Rattle.rules.specs.declared.Range.{Range}
 use Rattle.rules.specs.declared.Region.{Region}
 

@@ -4,16 +4,19 @@
 use mathlib.Core.Path.{_≡_}
 use mathlib.Core.Logic.{_≢_, _↔_}
 use mathlib.Core.Bool.{Bool, true, false, _&&_, _||_}
-use mathlib.Core.List.{List, [], _∷_}
-use Prim.Native.Nat.{ℕ, _+_, _%_, _<_}
+use mathlib.Core.List.{List, [], _∷_, _++_}
+use Prim.Native.Nat.{ℕ, _+_, _-_, _%_, _<_}
 use lib.Dec.{eqb}
-use lib.ListN.{length}
+use lib.ListN.{length, take, replicate}
 use Rattle.rules.specs.States.{startRules, startUp, noState}
 use Rattle.rules.specs.Results.{number, verdictNumber, answerNumber, answerLength, Row}
-use Rattle.rules.specs.Commands.{CommandArgs, Outcome, commandRows, commandCall, changed}
+use Rattle.rules.specs.Cases.{applies, oneOf, CommandCases, SlotCases}
+use Rattle.rules.specs.Commands.{CommandArgs, Outcome, commandRows, commandCall}
 use Rattle.rules.specs.Slots.{SlotArgs, slotRows, slotCall}
 use Rattle.rules.specs.Ground.{writerRows, writeCommand, readerRows, readCommand, readingNumber, noWords, packetRows, readPacket, packetNumber}
 use Rattle.rules.specs.declared.State.{State}
+use Rattle.rules.specs.declared.Place.{Place}
+use Rattle.rules.specs.declared.Context.the-variants.{Idle}
 use Rattle.rules.specs.declared.Region.{Region}
 use Rattle.rules.specs.declared.Range.{Range}
 use Rattle.rules.specs.declared.Header.{Header}
@@ -25,19 +28,10 @@ abbrev pub numbersOf : List Row → List ℕ
 numbersOf [] = []
 numbersOf (r ∷ rs) = number (r .refusal) ∷ numbersOf rs
 
--- the case of number k is there
-abbrev pub applies : ℕ → List Row → Bool
-applies k [] = false
-applies k (r ∷ rs) = (eqb (number (r .refusal)) k && r .applies) || applies k rs
-
 -- k is the lowest number that applies, and 0 if none does: each number is given exactly in its case
 pub record Lowest (rows : List Row) (k : ℕ) : Type 0 where
   pub refused : (j : ℕ) → 0 < j → (k ≡ j) ↔ ((applies j rows ≡ true) × ((i : ℕ) → i < j → applies i rows ≡ false))
   pub done : (k ≡ 0) ↔ ((i : ℕ) → applies i rows ≡ false)
-
-abbrev pub oneOf : ℕ → List ℕ → Bool
-oneOf k [] = false
-oneOf k (x ∷ xs) = eqb k x || oneOf k xs
 
 -- numbers that return the state as handed in, and numbers that add one to the refused count and change no other part of the state
 abbrev pub keepsState : ℕ → Bool
@@ -46,14 +40,31 @@ keepsState k = oneOf k (1 ∷ 2 ∷ 3 ∷ 5 ∷ 8 ∷ 16 ∷ [])
 abbrev pub countsRefused : ℕ → Bool
 countsRefused k = oneOf k (4 ∷ 6 ∷ 7 ∷ 9 ∷ 10 ∷ 11 ∷ 12 ∷ 13 ∷ 14 ∷ 15 ∷ [])
 
+-- every part of the state, by name: what a call may change, and the rest as it was
+abbrev pub stateWith : State → List Place → ℕ → ℕ → ℕ → ℕ → ℕ → State
+stateWith s places last replies packets accepted refused =
+    record {
+      regions = s .regions;
+      count = s .count;
+      pools = s .pools;
+      unit = s .unit;
+      places = places;
+      last = last;
+      replies = replies;
+      packets = packets;
+      accepted = accepted;
+      refused = refused;
+    }
+
 pub record CommandRefusals (s : State) (c : CommandArgs) (o : Outcome) : Type 0 where
   pub numbers : numbersOf (commandRows s c) ≡ 1 ∷ 2 ∷ 3 ∷ 4 ∷ 5 ∷ 6 ∷ 7 ∷ 8 ∷ 9 ∷ 10 ∷ 11 ∷ 12 ∷ 13 ∷ 14 ∷ 15 ∷ []
+  pub cases : CommandCases s c
   pub lowest : Lowest (commandRows s c) (answerNumber (o .answer))
   -- on every number but 0 image and reply buffer stay, and no length is reported
   pub kept : answerNumber (o .answer) ≢ 0 → (o .image ≡ c .image) × (o .buffer ≡ c .reply) × (answerLength (o .answer) ≡ 0)
   pub same : keepsState (answerNumber (o .answer)) ≡ true → o .state ≡ s
   pub one-more : countsRefused (answerNumber (o .answer)) ≡ true
-      → o .state ≡ changed s (s .places) (s .replies) (s .accepted) ((s .refused + 1) % 65536)
+      → o .state ≡ stateWith s (s .places) (s .last) (s .replies) (s .packets) (s .accepted) ((s .refused + 1) % 65536)
   -- number 0 adds one to the accepted count, and to no refused count
   pub accepted : answerNumber (o .answer) ≡ 0 → (o .state .accepted ≡ (s .accepted + 1) % 65536) × (o .state .refused ≡ s .refused)
   -- what was lent keeps its length
@@ -61,6 +72,7 @@ pub record CommandRefusals (s : State) (c : CommandArgs) (o : Outcome) : Type 0 
 
 pub record SlotRefusals (s : State) (c : SlotArgs) (o : Outcome) : Type 0 where
   pub numbers : numbersOf (slotRows s c) ≡ 1 ∷ 2 ∷ 3 ∷ 16 ∷ []
+  pub cases : SlotCases s c
   pub lowest : Lowest (slotRows s c) (answerNumber (o .answer))
   pub kept : answerNumber (o .answer) ≢ 0 → (o .state ≡ s) × (o .buffer ≡ c .buffer) × (answerLength (o .answer) ≡ 0)
   -- a slot never writes the image, nor the counts of commands
@@ -71,7 +83,33 @@ pub record SlotRefusals (s : State) (c : SlotArgs) (o : Outcome) : Type 0 where
 pub record StartRefusals (rs : List Region) (n : ℕ) (pools : List Range) (unit : ℕ) : Type 0 where
   pub ready : (verdictNumber (startUp rs n pools unit .verdict) ≡ 0) ↔ (startRules rs n pools unit ≡ true)
   pub refused : (verdictNumber (startUp rs n pools unit .verdict) ≡ 17) ↔ (startRules rs n pools unit ≡ false)
-  pub nothing : verdictNumber (startUp rs n pools unit .verdict) ≡ 17 → startUp rs n pools unit .state ≡ noState
+  pub nothing : verdictNumber (startUp rs n pools unit .verdict) ≡ 17 → startUp rs n pools unit .state
+      ≡ record {
+        regions = replicate 16 (record { range = record { start = record { 0 = 0 }; words = 0 }; load = false; dump = false });
+        count = 0;
+        pools = replicate 2 (record { start = record { 0 = 0 }; words = 0 });
+        unit = 0;
+        places = replicate 4 (record { context = Idle });
+        last = 3;
+        replies = 0;
+        packets = 0;
+        accepted = 0;
+        refused = 0;
+      }
+  pub fresh : verdictNumber (startUp rs n pools unit .verdict) ≡ 0
+      → startUp rs n pools unit .state
+      ≡ record {
+        regions = take n rs ++ replicate (16 - n) (record { range = record { start = record { 0 = 0 }; words = 0 }; load = false; dump = false });
+        count = n;
+        pools = pools;
+        unit = unit;
+        places = replicate 4 (record { context = Idle });
+        last = 3;
+        replies = 0;
+        packets = 0;
+        accepted = 0;
+        refused = 0;
+      }
 
 pub record GroundRefusals (h : Header) (k : Command) (ws buffer p : List ℕ) : Type 0 where
   pub writer-numbers : numbersOf (writerRows h k buffer) ≡ 3 ∷ 9 ∷ []

@@ -2,19 +2,21 @@
 -- table, the busy dumps and, for pool figures, the blocks allow it, and then does exactly what paper 01 says.
 use mathlib.Core.Path.{_≡_}
 use mathlib.Core.Logic.{_≢_, _↔_}
-use mathlib.Core.Bool.{Bool, true, false}
+use mathlib.Core.Bool.{Bool, true, false, cond, not}
 use mathlib.Core.List.{List, [], _∷_, _++_}
 use Prim.Native.Nat.{ℕ, suc, _+_, _*_, _%_, _≤_, _<_}
 use lib.ListN.{length, getD, take, drop}
 use Rattle.wire.specs.Bytes.{AreBytes, beAt, wordsAt}
-use Rattle.wire.specs.Xor.{xorAll}
-use Rattle.rules.specs.Regions.{startOf, endOf, regionAt, rangeAt, anyRight, loadRight, dumpRight, imageLength, imageIndex, indexIn}
-use Rattle.rules.specs.States.{startUp, poolAt, contextAt, busyWith, goodState}
-use Rattle.rules.specs.Packets.{versionOf, typeOf, secondHeaderOf, sequenceFlagsOf, lengthFieldOf, zeroBitOf, functionCodeOf, apidOf, commandUnit, commandTransaction, requestOf, requested}
-use Rattle.rules.specs.Pools.{Block, blockOf, isFree, isUsed, words, blocks, largest, replyBytes}
+use Rattle.rules.specs.Regions.{startOf, rangeAt, anyRight, inOneRegion, imageLength, imageIndex, indexIn}
+use Rattle.rules.specs.States.{startRules, startUp, poolAt, contextAt, busyWith, goodState}
+use Rattle.rules.specs.Cases.{Formed, rangeOf, poolOf, NumberFree, NumberBusy, PlaceFree}
+use Rattle.rules.specs.GoodWhen.{LiesIn, DumpableIn, GoodStart, Good}
+use Rattle.rules.specs.Packets.{primaryRules, versionOf, typeOf, secondHeaderOf, sequenceFlagsOf, sequenceCountOf, unitAt, transactionAt, headerAt, zeroBitOf, functionCodeOf, apidOf, commandUnit, commandTransaction}
+use Rattle.rules.specs.Pools.{Block, blockOf, Tiles, isFree, isUsed, words, blocks, largest, replyBytes}
 use Rattle.rules.specs.Results.{verdictNumber, answerNumber, answerLength}
-use Rattle.rules.specs.Commands.{CommandArgs, Outcome, commandCall, changed, newDump, poolWords}
-use Rattle.rules.specs.Slots.{SlotArgs, slotCall, placeAfter, nextWords, packetBytes, afterPacket, served}
+use Rattle.rules.specs.Commands.{CommandArgs, Outcome, commandCall, newDump, poolWords}
+use Rattle.rules.specs.Demand1.{stateWith}
+use Rattle.rules.specs.Slots.{SlotArgs, slotCall, nextWords, packetBytes, afterPacket}
 use Rattle.rules.specs.declared.ActiveDump.{ActiveDump}
 use Rattle.rules.specs.declared.Context.the-variants.{Idle, Busy}
 use Rattle.rules.specs.declared.Place.{Place}
@@ -26,53 +28,28 @@ use Rattle.rules.specs.declared.State.{State}
 
 -- the layout of every command packet, and the unit
 pub record ForThisBox (s : State) (p : List ℕ) : Type 0 where
-  pub bytes : 8 ≤ length p
-  pub version : versionOf p ≡ 0
-  pub type : typeOf p ≡ 1
-  pub second-header : secondHeaderOf p ≡ 1
-  pub sequence-flags : sequenceFlagsOf p ≡ 3
-  pub length-field : lengthFieldOf p + 7 ≡ length p
-  pub zero-bit : zeroBitOf p ≡ 0
-  pub check : xorAll p ≡ 255
+  pub formed : Formed p
   pub apid : apidOf p ≡ 1604
   pub unit : commandUnit p ≡ s .unit
-
--- the range a lies whole in region i of the table, which is in use and has the right
-pub record LiesIn (right : Region → Bool) (rs : List Region) (n : ℕ) (a : Range) (i : ℕ) : Type 0 where
-  pub in-use : i < n
-  pub from : startOf (rangeAt rs i) ≤ startOf a
-  pub to : endOf a ≤ endOf (rangeAt rs i)
-  pub allowed : right (regionAt rs i) ≡ true
-
-abbrev pub rangeOf : List ℕ → Range
-rangeOf p = requested (requestOf p)
 
 pub record DumpAllowed (s : State) (p : List ℕ) : Type 0 where
   pub bytes : length p ≡ 16
   pub aligned : startOf (rangeOf p) % 4 ≡ 0
   pub some : 1 ≤ rangeOf p .words
-  pub region : (i : ℕ) × LiesIn dumpRight (s .regions) (s .count) (rangeOf p) i
-  pub number : (i : ℕ) → i < 4 → busyWith (commandTransaction p) (contextAt (s .places) i) ≡ false
-  pub place : (i : ℕ) × (i < 4) × (contextAt (s .places) i ≡ Idle)
+  pub region : DumpableIn (s .regions) (s .count) (rangeOf p)
+  pub number : NumberFree s p
+  pub place : PlaceFree s
 
 pub record CancelAllowed (s : State) (p : List ℕ) : Type 0 where
   pub bytes : length p ≡ 10
-  pub busy : (i : ℕ) × (i < 4) × (busyWith (commandTransaction p) (contextAt (s .places) i) ≡ true)
+  pub busy : NumberBusy s p
 
 pub record LoadAllowed (s : State) (p : List ℕ) : Type 0 where
   pub bytes : length p ≡ 60
   pub aligned : startOf (rangeOf p) % 4 ≡ 0
   pub some : 1 ≤ rangeOf p .words
   pub most : rangeOf p .words ≤ 11
-  pub region : (i : ℕ) × LiesIn loadRight (s .regions) (s .count) (rangeOf p) i
-
--- The words of a pool are exactly these blocks, one after the other: each begins with its first word and has as many words as that says.
-pub data Tiles : List ℕ → List Block → Type 0 where
-  end : Tiles [] []
-  next : (w : ℕ) (rest ws : List ℕ) (bs : List Block) → blockOf w .size ≡ suc (length rest) → Tiles ws bs → Tiles (w ∷ rest ++ ws) (blockOf w ∷ bs)
-
-abbrev pub poolOf : List ℕ → ℕ
-poolOf p = beAt 2 p 10
+  pub region : (i : ℕ) × LiesIn (λ (g : Region). g .load) (s .regions) (s .count) (rangeOf p) i
 
 pub record PoolAllowed (s : State) (c : CommandArgs) : Type 0 where
   pub bytes : length (c .packet) ≡ 12
@@ -103,7 +80,7 @@ pub record OnePlace (before : List Place) (i : ℕ) (now : List Place) : Type 0 
 
 -- the state after an accepted command: with these places and count of replies, one more accepted, and all else as it was
 abbrev pub afterCommand : State → List Place → ℕ → State
-afterCommand s places replies = changed s places replies ((s .accepted + 1) % 65536) (s .refused)
+afterCommand s places replies = stateWith s places (s .last) replies (s .packets) ((s .accepted + 1) % 65536) (s .refused)
 
 -- the lowest-numbered idle place is busy with the dump, of which nothing was sent
 pub record DumpDone (s : State) (c : CommandArgs) (o : Outcome) : Type 0 where
@@ -139,6 +116,33 @@ pub record LoadDone (s : State) (c : CommandArgs) (o : Outcome) : Type 0 where
   pub state : o .state ≡ afterCommand s (s .places) (s .replies)
   pub reply : (o .buffer ≡ c .reply) × (answerLength (o .answer) ≡ 0)
 
+-- THE FIGURES IN LOGIC
+
+-- the blocks that `pick` picks, in order, and the sum of blocks' sizes
+abbrev pub picked : (Block → Bool) → List Block → List Block
+picked pick [] = []
+picked pick (b ∷ bs) = cond (pick b) (b ∷ picked pick bs) (picked pick bs)
+
+abbrev pub sizeSum : List Block → ℕ
+sizeSum [] = 0
+sizeSum (b ∷ bs) = b .size + sizeSum bs
+
+abbrev pub sizeAt : List Block → ℕ → ℕ
+sizeAt bs i = getD bs i (record { used = false; size = 0 }) .size
+
+pub record FiguresAre (bs : List Block) : Type 0 where
+  pub free-words : words isFree bs ≡ sizeSum (picked (λ b. not (b .used)) bs)
+  pub free-blocks : blocks isFree bs ≡ length (picked (λ b. not (b .used)) bs)
+  pub used-words : words isUsed bs ≡ sizeSum (picked (λ b. b .used) bs)
+  pub used-blocks : blocks isUsed bs ≡ length (picked (λ b. b .used) bs)
+  -- no free block is larger than the largest, and it is one of them; 0 if there is none
+  pub bounds : (i : ℕ) → sizeAt (picked (λ b. not (b .used)) bs) i ≤ largest isFree bs
+  pub reached : (i : ℕ) × (largest isFree bs ≡ sizeAt (picked (λ b. not (b .used)) bs) i)
+
+-- a block's first word: the top bit says used, the low 31 bits are the size
+abbrev pub BlockBits : ℕ → Type 0
+BlockBits w = (w ≡ cond (blockOf w .used) 2147483648 0 + blockOf w .size) × (blockOf w .size < 2147483648)
+
 -- The reply has the figures of the pool's blocks, as words from byte 12 on; its packet count is raised.
 pub record PoolDone (s : State) (c : CommandArgs) (o : Outcome) : Type 0 where
   pub found : List Block
@@ -146,6 +150,11 @@ pub record PoolDone (s : State) (c : CommandArgs) (o : Outcome) : Type 0 where
   pub figures : wordsAt 5 (o .buffer) 12 ≡ words isFree found ∷ blocks isFree found ∷ largest isFree found ∷ words isUsed found ∷ blocks isUsed found ∷ []
   pub size : words isFree found + words isUsed found ≡ poolAt (s .pools) (poolOf (c .packet)) .words
   pub reported : answerLength (o .answer) ≡ 32
+  -- a telemetry packet of APID 785 with the reply count, the box's unit, the command's transaction number and pool, and 16 zero bits
+  pub primary : primaryRules 0 0 (take 32 (o .buffer)) ≡ true
+  pub apid : apidOf (o .buffer) ≡ 785
+  pub header : headerAt (o .buffer) 6 ≡ record { count = s .replies; unit = s .unit; transaction = commandTransaction (c .packet) }
+  pub pool : (beAt 2 (o .buffer) 8 ≡ poolOf (c .packet)) × (beAt 2 (o .buffer) 10 ≡ 0)
   pub reply : take 32 (o .buffer) ≡ replyBytes (s .replies) (s .unit) (commandTransaction (c .packet)) (poolOf (c .packet)) found
   pub rest : drop 32 (o .buffer) ≡ drop 32 (c .reply)
   pub state : o .state ≡ afterCommand s (s .places) ((s .replies + 1) % 16384)
@@ -164,15 +173,19 @@ pub record SlotDone (s : State) (c : SlotArgs) (o : Outcome) : Type 0 where
   pub k : ℕ
   pub near : k < 4
   pub dump : ActiveDump
-  pub busy : contextAt (s .places) (placeAfter (s .last) k) ≡ Busy dump
-  pub passed : (j : ℕ) → j < k → contextAt (s .places) (placeAfter (s .last) j) ≡ Idle
+  pub busy : contextAt (s .places) ((s .last + 1 + k) % 4) ≡ Busy dump
+  pub passed : (j : ℕ) → j < k → contextAt (s .places) ((s .last + 1 + j) % 4) ≡ Idle
   pub packet : take (answerLength (o .answer)) (o .buffer) ≡ packetBytes s (c .tick) dump (nextWords s (c .image) dump)
   pub rest : drop (answerLength (o .answer)) (o .buffer) ≡ drop (answerLength (o .answer)) (c .buffer)
   pub reported : answerLength (o .answer) ≡ 28 + 4 * length (nextWords s (c .image) dump)
   pub longest : answerLength (o .answer) ≤ 4092
-  pub now : contextAt (o .state .places) (placeAfter (s .last) k) ≡ afterPacket dump
-  pub others : OnePlace (s .places) (placeAfter (s .last) k) (o .state .places)
-  pub state : o .state ≡ served s (o .state .places) (placeAfter (s .last) k) ((s .packets + 1) % 16384)
+  pub now : contextAt (o .state .places) ((s .last + 1 + k) % 4) ≡ afterPacket dump
+  pub more : dump .sent + 1016 < dump .range .words
+      → contextAt (o .state .places) ((s .last + 1 + k) % 4)
+      ≡ Busy (record { transaction = dump .transaction; range = dump .range; sent = dump .sent + 1016 })
+  pub freed : dump .range .words ≤ dump .sent + 1016 → contextAt (o .state .places) ((s .last + 1 + k) % 4) ≡ Idle
+  pub others : OnePlace (s .places) ((s .last + 1 + k) % 4) (o .state .places)
+  pub state : o .state ≡ stateWith s (o .state .places) ((s .last + 1 + k) % 4) (s .replies) ((s .packets + 1) % 16384) (s .accepted) (s .refused)
 
 pub record SlotExact (s : State) (c : SlotArgs) : Type 0 where
   pub when : (answerNumber (slotCall s c .answer) ≡ 0) ↔ ((i : ℕ) × (i < 4) × (contextAt (s .places) i ≢ Idle))
@@ -186,10 +199,28 @@ pub record Demand2 : Type 0 where
   pub effects : (s : State) (c : CommandArgs) → IsAccepted s c → Effects s c
   pub slot : (s : State) (c : SlotArgs) → goodState s ≡ true → length (c .image) ≡ imageLength (s .regions) (s .count) → 4092 ≤ length (c .buffer)
       → SlotExact s c
+  -- the figures are those of the blocks
+  pub figures-are : (bs : List Block) → FiguresAre bs
+  pub block-bits : (w : ℕ) → w < 4294967296 → BlockBits w
+  -- the tests of tables, pools, dumps and states hold exactly when the rules do
+  pub region-when : (right : Region → Bool) (rs : List Region) (n : ℕ) (a : Range) → (inOneRegion right rs n a ≡ true) ↔ ((i : ℕ) × LiesIn right rs n a i)
+  pub start-when : (rs : List Region) (n : ℕ) (pools : List Range) (unit : ℕ) → (startRules rs n pools unit ≡ true) ↔ GoodStart rs n pools unit
+  pub good-when : (s : State) → (goodState s ≡ true) ↔ Good s
   -- a range of at least one word in a good state's table begins in the image where its region's words say, and lies whole in the image
   pub located : (s : State) (r : Range) (i : ℕ) → goodState s ≡ true → 1 ≤ r .words → LiesIn anyRight (s .regions) (s .count) r i
       → (imageIndex (s .regions) (s .count) r .0 ≡ indexIn (s .regions) r i)
       × (indexIn (s .regions) r i + r .words ≤ imageLength (s .regions) (s .count))
+  -- the regions lie back to back in table order, from index 0 on, a word for each four bytes
+  pub image-first : (rs : List Region) → indexIn rs (rangeAt rs 0) 0 ≡ 0
+  pub image-next : (rs : List Region) (i : ℕ) → indexIn rs (rangeAt rs (suc i)) (suc i) ≡ indexIn rs (rangeAt rs i) i + rangeAt rs i .words
+  pub image-word : (rs : List Region) (a : Range) (i k : ℕ) → startOf a ≡ startOf (rangeAt rs i) + 4 * k → indexIn rs a i ≡ indexIn rs (rangeAt rs i) i + k
+  -- the bits of a packet's first bytes, each in one field
+  pub bits : (p : List ℕ) → AreBytes p
+      → (beAt 2 p 0 ≡ 8192 * versionOf p + 4096 * typeOf p + 2048 * secondHeaderOf p + apidOf p)
+      × (typeOf p < 2) × (secondHeaderOf p < 2) × (apidOf p < 2048)
+      × (beAt 2 p 2 ≡ 16384 * sequenceFlagsOf p + sequenceCountOf p) × (sequenceCountOf p < 16384)
+      × (getD p 6 0 ≡ 128 * zeroBitOf p + functionCodeOf p) × (functionCodeOf p < 128)
+      × ((at : ℕ) → (beAt 2 p at ≡ 4096 * unitAt p at + transactionAt p at) × (transactionAt p at < 4096))
   -- a good state stays good under every call, and start-up answered 0 gives a good one
   pub command-good : (s : State) (c : CommandArgs) → AreBytes (c .packet) → goodState s ≡ true → goodState (commandCall s c .state) ≡ true
   pub slot-good : (s : State) (c : SlotArgs) → goodState s ≡ true → goodState (slotCall s c .state) ≡ true

@@ -198,7 +198,8 @@ abbrev pub Demand3 : Type 0
 Demand3 =
     (rs : List Region) (n : ℕ) (pools : List Range) (unit : ℕ) → verdictNumber (startUp rs n pools unit .verdict) ≡ 0
     → (calls : List Call) → LendsBytes calls
-    → SameTable rs n (events (startUp rs n pools unit .state) calls)
+    → ((r : Range) → pieceWords r ≡ 1016)
+    × SameTable rs n (events (startUp rs n pools unit .state) calls)
     × ((before after : List Event) (e : Event) (t : ℕ) (r : Range)
     → events (startUp rs n pools unit .state) calls ≡ before ++ e ∷ after
     → Accepted t r e

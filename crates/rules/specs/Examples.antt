@@ -6,10 +6,10 @@ use mathlib.Core.List.{List, [], _∷_, _++_, map}
 use Prim.Native.Nat.{ℕ, _+_, _*_}
 use lib.ListN.{length, take, drop, replicate}
 use Rattle.rules.specs.Regions.{noRange}
-use Rattle.rules.specs.States.{startUp, pieceWords}
+use Rattle.rules.specs.States.{startUp}
 use Rattle.rules.specs.Packets.{commandBytes}
 use Rattle.rules.specs.Results.{answerNumber, answerLength}
-use Rattle.rules.specs.Demand3.{Call, command, slot, Event, events, packets, packetIn, pieces}
+use Rattle.rules.specs.Demand3.{Call, command, slot, Event, events, packets, packetIn, packetsDue}
 use Rattle.rules.specs.declared.Range.{Range}
 use Rattle.rules.specs.declared.Region.{Region}
 use Rattle.rules.specs.declared.State.{State}
@@ -71,6 +71,9 @@ images s cs = map imageAfter (events s cs)
 abbrev pub written : State → List Call → List (List ℕ)
 written s cs = map packetIn (events s cs)
 
+abbrev pub due : ℕ → ℕ
+due n = packetsDue (range 0x1000 n)
+
 abbrev pub four : List ℕ
 four = 0x11111111 ∷ 0x22222222 ∷ 0x33333333 ∷ 0x44444444 ∷ []
 
@@ -90,6 +93,7 @@ pub record Examples : Type 0 where
   pub e3 : load 0xABC 1 0x1000 (0x01020304 ∷ [])
       ≡ 0x1E ∷ 0x44 ∷ 0xC0 ∷ 0x01 ∷ 0x00 ∷ 0x35 ∷ 0x04 ∷ 0xD6 ∷ 0x2A ∷ 0xBC ∷ 0x00 ∷ 0x01 ∷ 0x00 ∷ 0x00 ∷ 0x10 ∷ 0x00 ∷ 0x01 ∷ 0x02 ∷ 0x03 ∷ 0x04
       ∷ replicate 40 0
+  pub e3-answer : numbers usual (send four (load 0xABC 1 0x1000 (0x01020304 ∷ [])) ∷ []) ≡ 0 ∷ []
   pub e3-image : images usual (send four (load 0xABC 1 0x1000 (0x01020304 ∷ [])) ∷ []) ≡ (0x01020304 ∷ 0x22222222 ∷ 0x33333333 ∷ 0x44444444 ∷ []) ∷ []
   pub e4 : numbers usual (send four (dump 1 4 0x1000) ∷ send four (dump 2 5 0x1000) ∷ []) ≡ 0 ∷ 10 ∷ []
   pub e5 : numbers usual (send four (dump 1 1 0x1002) ∷ send four (load 1 1 0x1002 (7 ∷ [])) ∷ []) ≡ 9 ∷ 9 ∷ []
@@ -105,15 +109,19 @@ pub record Examples : Type 0 where
       (send (replicate 1017 7) (dump 0x123 1017 0x1000) ∷ slotAt (replicate 1017 7) 5 ∷ slotAt (replicate 1017 7) 6 ∷ slotAt (replicate 1017 7) 7 ∷ [])
       ≡ 4092 ∷ 32 ∷ []
   -- the m of demand 3, and its 4 m slots
-  pub e8-pieces : map (pieces (pieceWords noRange)) (1016 ∷ 1017 ∷ 65535 ∷ []) ≡ 1 ∷ 2 ∷ 65 ∷ []
-  pub e8-slots : 4 * pieces (pieceWords noRange) 65535 ≡ 260
+  pub e8-pieces : map due (1016 ∷ 1017 ∷ 65535 ∷ []) ≡ 1 ∷ 2 ∷ 65 ∷ []
+  pub e8-slots : 4 * due 65535 ≡ 260
   pub e9 : numbers (fresh (both 0xFFFFFFF0 4 ∷ [])) (send four (dump 1 1 0xFFFFFFFC) ∷ send four (dump 2 2 0xFFFFFFFC) ∷ []) ≡ 0 ∷ 10 ∷ []
   pub e10 : numbers (fresh (both 0x1000 2 ∷ both 0x1008 2 ∷ [])) (send four (dump 1 2 0x1004) ∷ send four (load 2 2 0x1004 (7 ∷ 7 ∷ [])) ∷ []) ≡ 10 ∷ 10 ∷ []
-  pub e11 : written (box (both 0x1000 6 ∷ []) (range 0x1000 6))
-      (send (0x80000002 ∷ 9 ∷ 0x00000004 ∷ 9 ∷ 9 ∷ 9 ∷ []) (commandBytes (header 0 0x123) (PoolStatistics 1) []) ∷ [])
+  -- whatever the words x inside the blocks
+  pub e11 : (w x y z : ℕ) → written (box (both 0x1000 6 ∷ []) (range 0x1000 6))
+      (send (0x80000002 ∷ w ∷ 0x00000004 ∷ x ∷ y ∷ z ∷ []) (commandBytes (header 0 0x123) (PoolStatistics 1) []) ∷ [])
       ≡ (0x03 ∷ 0x11 ∷ 0xC0 ∷ 0x00 ∷ 0x00 ∷ 0x19 ∷ 0x21 ∷ 0x23 ∷ 0x00 ∷ 0x01 ∷ 0x00 ∷ 0x00
       ∷ 0 ∷ 0 ∷ 0 ∷ 4 ∷ 0 ∷ 0 ∷ 0 ∷ 1 ∷ 0 ∷ 0 ∷ 0 ∷ 4 ∷ 0 ∷ 0 ∷ 0 ∷ 2 ∷ 0 ∷ 0 ∷ 0 ∷ 1 ∷ [])
       ∷ []
+  pub e11-answer : (w x y z : ℕ) → numbers (box (both 0x1000 6 ∷ []) (range 0x1000 6))
+      (send (0x80000002 ∷ w ∷ 0x00000004 ∷ x ∷ y ∷ z ∷ []) (commandBytes (header 0 0x123) (PoolStatistics 1) []) ∷ [])
+      ≡ 0 ∷ []
   -- the fifth dump with four busy, and with a busy number as well
   pub e12 : numbers usual
       (send four (dump 1 1 0x1000) ∷ send four (dump 2 1 0x1000) ∷ send four (dump 3 1 0x1000) ∷ send four (dump 4 1 0x1000)

@@ -6,7 +6,11 @@ pub mod Pools
 pub mod Commands
 pub mod Slots
 pub mod Ground
+pub mod GoodWhen
+pub mod Cases
 pub mod Demand1
 pub mod Demand2
 pub mod Demand3
+pub mod ReadBack
 pub mod Examples
+pub mod FurtherExamples

@@ -1,8 +1,10 @@
 -- Paper 01, "What each command does": the blocks of a pool, their figures, and the reply.
+use mathlib.Core.Path.{_≡_}
 use mathlib.Core.Bool.{Bool, true, false, cond, not}
 use mathlib.Core.List.{List, [], _∷_, _++_}
 use Prim.Native.Nat.{ℕ, zero, suc, _+_, _*_, _-_, _%_, max}
 use lib.Dec.{leb, eqb}
+use lib.ListN.{length}
 use Rattle.wire.specs.Bytes.{be}
 use Rattle.rules.specs.Packets.{primaryHeader, identity}
 
@@ -38,6 +40,13 @@ blocksOf pool = blocksFrom 0 pool
 abbrev pub isDamaged : Walk → Bool
 isDamaged damaged = true
 isDamaged (whole bs) = false
+
+-- THE SAME IN LOGIC
+
+-- The words of a pool are exactly these blocks, one after the other: each begins with its first word and has as many words as that says.
+pub data Tiles : List ℕ → List Block → Type 0 where
+  end : Tiles [] []
+  next : (w : ℕ) (rest ws : List ℕ) (bs : List Block) → blockOf w .size ≡ suc (length rest) → Tiles ws bs → Tiles (w ∷ rest ++ ws) (blockOf w ∷ bs)
 
 -- FIGURES, over the blocks that `pick` picks
 

@@ -1,8 +1,10 @@
 // The types of the memory service, and paper 01's examples and demands as theorems over the definitions in specs/.
 ghost use Rattle.rules.specs.Examples.{Examples};
+ghost use Rattle.rules.specs.FurtherExamples.{FurtherExamples};
 ghost use Rattle.rules.specs.Demand1.{Demand1};
 ghost use Rattle.rules.specs.Demand2.{Demand2};
 ghost use Rattle.rules.specs.Demand3.{Demand3};
+ghost use Rattle.rules.specs.ReadBack.{ReadBack};
 
 // A byte address.
 pub struct Address(pub u32);
@@ -167,6 +169,11 @@ pub fn checked_examples()
     ensures { λ r. ⌜ Examples ⌝ }
 {}
 
+// Cases that E1 to E12 leave out.
+pub fn further_cases()
+    ensures { λ r. ⌜ FurtherExamples ⌝ }
+{}
+
 // Safe, exact refusals.
 pub fn demand_1()
     ensures { λ r. ⌜ Demand1 ⌝ }
@@ -180,4 +187,9 @@ pub fn demand_2()
 // No dump waits for ever.
 pub fn demand_3()
     ensures { λ r. ⌜ Demand3 ⌝ }
+{}
+
+// Packets are written and read back as laid down.
+pub fn packets_read_back()
+    ensures { λ r. ⌜ ReadBack ⌝ }
 {}
