@@ -15,7 +15,8 @@ use Rattle.lists.proofs.Splice.{splice-front}
 use Rattle.lists.proofs.Tests.{and-left, and-right}
 use Rattle.wire.specs.Bytes.{be}
 use Rattle.wire.specs.Xor.{xorAll}
-use Rattle.wire.proofs.Stores.{sets-sets, sets-splice, set-splice}
+use Rattle.wire.proofs.Stores.{set-splice}
+use Rattle.lists.proofs.Runs.{sets-sets, sets-splice}
 use Rattle.rules.specs.Packets.{codeOf, packetLength, fieldRules, usedWords, bodyBytes, sealed, commandBytes}
 use Rattle.rules.specs.Results.{lowest}
 use Rattle.rules.specs.Ground.{headerRules, writerRows, writeCommand}

@@ -5,7 +5,10 @@ use mathlib.Core.Bool.{Bool, true, false, _&&_, _||_, cond}
 use mathlib.Core.Logic.{⊎-elim}
 use Prim.Native.Nat.{ℕ, zero, suc, _+_, _≤_, _<_}
 use native.Mathlib.Nat.{eq-or-lt-of-le}
+use native.Mathlib.Numerals.{add-one}
 use native.Mathlib.Omega.{arith}
+use lib.Dec.{ltb}
+use borrow.Author.Tests.{lt-ltb, le-ltb}
 use Rattle.lists.specs.Below.{allBelow, anyBelow, sumBelow, firstBelow}
 use Rattle.lists.proofs.Tests.{either, contra, and-left, and-right, or-left, or-right}
 
@@ -77,6 +80,24 @@ pub first-none : (p : ℕ → Bool) (n : ℕ) → anyBelow p n ≡ false → fir
 first-none p zero h = refl
 first-none p (suc m) h = rw (or-left (anyBelow p m) (p m) h, or-right (anyBelow p m) (p m) h)
 
+-- so where the search ends says whether one passes
+pub any-first : (p : ℕ → Bool) (n : ℕ) → anyBelow p n ≡ ltb (firstBelow p n) n
+any-first p n =
+    either (anyBelow p n)
+    (λ e. e ∙ sym (lt-ltb (firstBelow p n) n (first-found p n e .0)))
+    (λ e. let q : n ≤ firstBelow p n = rw (first-none p n e) (omega arith) in e ∙ sym (le-ltb (firstBelow p n) n q))
+
+-- ONE MORE TURN of a loop that counts up
+
+pub all-more : (p : ℕ → Bool) (i : ℕ) → allBelow p (i + 1) ≡ (allBelow p i && p i)
+all-more p i = rw add-one
+
+pub none-more : (p : ℕ → Bool) (i : ℕ) → anyBelow p i ≡ false → p i ≡ false → anyBelow p (i + 1) ≡ false
+none-more p i h k = rw (add-one, h, k)
+
+pub sum-more : (f : ℕ → ℕ) (i : ℕ) → sumBelow f (i + 1) ≡ sumBelow f i + f i
+sum-more f i = rw add-one
+
 -- THEY READ ONLY BELOW n
 
 pub all-same : (p q : ℕ → Bool) (n : ℕ) → ((i : ℕ) → i < n → p i ≡ q i) → allBelow p n ≡ allBelow q n
@@ -93,3 +114,12 @@ any-same p q (suc m) f = ap₂ (λ (x y : Bool). x || y) (any-same p q m (λ i l
 pub sum-part : (f : ℕ → ℕ) (n : ℕ) {k : ℕ} → k < n → sumBelow f k + f k ≤ sumBelow f n
 sum-part f zero l = absurd (omega arith)
 sum-part f (suc m) {k} l = last-or l (λ e. rw e (omega arith)) (λ q. let h = sum-part f m q in omega arith)
+
+-- terms of 0 from k on add nothing
+pub sum-past : (f : ℕ → ℕ) (k n : ℕ) → k ≤ n → ((i : ℕ) → k ≤ i → f i ≡ 0) → sumBelow f n ≡ sumBelow f k
+sum-past f k zero l z = let e : k ≡ 0 = omega arith in rw e
+sum-past f k (suc m) l z =
+    ⊎-elim
+    (λ (e : k ≡ suc m). rw e)
+    (λ (q : k < suc m). let r = sum-past f k m (omega arith) z in let s = z m (omega arith) in omega arith)
+    (eq-or-lt-of-le l)

@@ -1,3 +1,4 @@
 pub mod Tests
 pub mod Below
 pub mod Splice
+pub mod Runs

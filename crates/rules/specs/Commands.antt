@@ -16,6 +16,7 @@ use Rattle.rules.specs.declared.Place.{Place}
 use Rattle.rules.specs.declared.Range.{Range}
 use Rattle.rules.specs.declared.Context.{Context}
 use Rattle.rules.specs.declared.Context.the-variants.{Idle, Busy}
+use Rattle.rules.specs.declared.Returned.{Returned}
 use Rattle.rules.specs.declared.State.{State}
 use Rattle.rules.specs.declared.Command.{Command}
 use Rattle.rules.specs.declared.Command.the-variants.{Dump, Cancel, Load, PoolStatistics}
@@ -40,6 +41,10 @@ pub record Outcome : Type 0 where
   pub state : State
   pub image : List ℕ
   pub buffer : List ℕ
+
+-- what a call returns beside the image and the buffer that it leaves
+abbrev pub returned : Outcome → Returned
+returned o = record { answer = o .answer; state = o .state }
 
 -- THE TESTS, one for each number that only some commands can get
 

@@ -129,6 +129,12 @@ pub enum Answer {
     Done(Written),
 }
 
+// What a command call and a slot call return beside the image and the buffer that they leave.
+pub struct Returned {
+    pub answer: Answer,
+    pub state: State,
+}
+
 // A command packet's fields. The eleven data words of a load stand beside it.
 pub struct Telecommand {
     pub header: Header,

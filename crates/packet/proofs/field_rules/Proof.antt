@@ -19,19 +19,19 @@ enum-known-k-3 c = search needs
 
 returns : tie.Need-returns
 unfolding fieldRules
-returns c = cc
+returns c = rw (c .before .before .before .k .given .1)
 
 returns-2 : tie.Need-returns-2
 unfolding fieldRules
-returns-2 c = cc
+returns-2 c = rw (c .enum-told .given .1)
 
 returns-3 : tie.Need-returns-3
 unfolding fieldRules
-returns-3 c = cc
+returns-3 c = rw (c .before .before .before .before .k2 .given .1)
 
 returns-4 : tie.Need-returns-4
 unfolding fieldRules
-returns-4 c = cc
+returns-4 c = rw (c .before .k3 .given .1)
 
 pub field-rules-spec : {M : Type 1} → statement M
 field-rules-spec =

@@ -14,7 +14,7 @@ cast-t7 : tie.Need-cast-t7
 cast-t7 c = search needs
 
 returns : tie.Need-returns
-returns c = cc
+returns c = rw (c .before .get16 .ensures, c .get162 .ensures)
 
 pub header-at-spec : {M : Type 1} → statement M
 header-at-spec = tie.close (tie.spec get16-requires get16-requires-2 cast-t7 returns)

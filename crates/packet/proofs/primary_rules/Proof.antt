@@ -20,7 +20,7 @@ add-result : tie.Need-add-result
 add-result c = search needs
 
 returns : tie.Need-returns
-returns c = cc
+returns c = rw (c .before .before .get16 .ensures, c .before .get162 .ensures, c .get163 .ensures)
 
 pub primary-rules-spec : {M : Type 1} → statement M
 primary-rules-spec =

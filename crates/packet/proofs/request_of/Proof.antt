@@ -11,7 +11,7 @@ get32-requires : tie.Need-get32-requires
 get32-requires c κs = search needs
 
 returns : tie.Need-returns
-returns c = cc
+returns c = rw (c .before .get16 .ensures, c .get32 .ensures)
 
 pub request-of-spec : {M : Type 1} → statement M
 request-of-spec = tie.close (tie.spec get16-requires get32-requires returns)

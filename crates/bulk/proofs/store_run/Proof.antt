@@ -1,0 +1,84 @@
+-- `bulk::store_run` meets its contract.
+-- Assumes nothing.
+use mathlib.Core.Path.{_≡_, sym, _∙_}
+use Prim.Native.Nat.{_≤_, _<_, _-_}
+use native.Mathlib.Omega.{arith}
+use lib.ListN.{length, take, getD}
+use Rattle.lists.specs.Splice.{splice}
+use Rattle.lists.proofs.Runs.{splice-none, copy-turn}
+use Rattle.wire.proofs.Words.{words-at-length, words-at-word}
+use Rattle.rules.specs.Packets.{dataWords}
+use borrow.Author.Needs.{needs}
+use Rattle.bulk.proofs.store_run.Statement.{statement}
+use Rattle.bulk.proofs.store_run.Tie as tie
+
+abbrev Inv-loop : tie.InvT-loop
+Inv-loop image₀ at packet n i₀ image i = (i ≤ n) × (image ≡ splice image₀ at (take i (dataWords packet))) × (length image ≡ length image₀)
+
+abbrev μ-loop : tie.MeasureT-loop
+μ-loop image₀ at packet n i₀ image i = n - i
+
+loop-holds : tie.Need-loop-holds Inv-loop μ-loop
+loop-holds c = (search needs, sym (splice-none _ _), search needs)
+
+mul-word-at : tie.Need-mul-word-at Inv-loop μ-loop
+mul-word-at c = search needs
+
+add-word-at : tie.Need-add-word-at Inv-loop μ-loop
+add-word-at c = search needs
+
+word-at-requires : tie.Need-word-at-requires Inv-loop μ-loop
+word-at-requires c κs = search needs
+
+add-image : tie.Need-add-image Inv-loop μ-loop
+add-image c = search needs
+
+mul-image : tie.Need-mul-image Inv-loop μ-loop
+mul-image c = search needs
+
+slice-write-image : tie.Need-slice-write-image Inv-loop μ-loop
+slice-write-image c = search needs
+
+add-i : tie.Need-add-i Inv-loop μ-loop
+add-i c = search needs
+
+loop-less : tie.Need-loop-less Inv-loop μ-loop
+loop-less c = search needs
+
+loop-again : tie.Need-loop-again Inv-loop μ-loop
+loop-again c =
+    let at-loop = c .before .before in
+    let start = at-loop .before .before .before in
+    let i = at-loop .loop .i in
+    let p = start .args .packet .now in
+    let k : i < length (dataWords p) = omega (arith, words-at-length 11 p 16) in
+    let w : c .word-at .result ≡ getD (dataWords p) i 0 = c .word-at .ensures ∙ sym (words-at-word 11 p 16 i (omega arith)) in
+    (search needs, rw w (copy-turn (start .args .image .now) (at-loop .loop .image) (dataWords p) (start .args .at) i k (omega arith) (at-loop .loop .inv .1)), search needs)
+
+same-length : tie.Need-same-length Inv-loop μ-loop
+same-length c = search needs
+
+returns : tie.Need-returns Inv-loop μ-loop
+returns c =
+    let start = c .before .before .before .before in
+    let n : c .before .loop .i ≡ start .args .n = omega arith in
+    rw n at (c .before .loop .inv .1)
+
+pub store-run-spec : {M : Type 1} → statement M
+store-run-spec =
+    tie.close
+    (tie.spec
+    Inv-loop
+    μ-loop
+    loop-holds
+    mul-word-at
+    add-word-at
+    word-at-requires
+    add-image
+    mul-image
+    slice-write-image
+    add-i
+    loop-less
+    loop-again
+    same-length
+    returns)

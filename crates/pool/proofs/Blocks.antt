@@ -1,0 +1,109 @@
+-- One turn of the walk: the figures so far, and the walk of the rest, make the walk of the pool.
+-- Assumes nothing.
+use mathlib.Core.Path.{_≡_, refl, ap}
+use mathlib.Core.Logic.{_≢_}
+use mathlib.Core.List.{List, [], _∷_}
+use Prim.Native.Nat.{ℕ, zero, suc, _+_, _-_, _≤_, _<_}
+use native.Mathlib.Omega.{arith}
+use lib.ListN.{length, drop, getD, length-drop, drop-of-length-le}
+use lib.Seq.{drop-cons, drop-drop}
+use borrow.Author.Tests.{ne-eqb}
+use Rattle.lists.proofs.Tests.{either}
+use Rattle.rules.specs.Pools.{Block, blockOf, Walk, damaged, whole, after, blocksFrom}
+use Rattle.pool.specs.declared.Figures.{Figures}
+use Rattle.pool.specs.declared.Walked.{Walked}
+use Rattle.pool.specs.declared.Walked.the-variants.{Damaged, Whole}
+use Rattle.pool.specs.Answers.{figuresOf, walkedOf, together, counted}
+
+-- FIGURES
+
+pub same-figures : {f g : Figures}
+    → (f .free ≡ g .free) × (f .freeblocks ≡ g .freeblocks) × (f .largest ≡ g .largest) × (f .used ≡ g .used) × (f .usedblocks ≡ g .usedblocks) → f ≡ g
+same-figures e = λ i. record { free = e .0 i; freeblocks = e .1 i; largest = e .2 i; used = e .3 i; usedblocks = e .4 i }
+
+-- one more block is counted first, or with the others
+counted-first : (f : Figures) (b : Block) (bs : List Block) → together f (figuresOf (b ∷ bs)) ≡ together (counted f b) (figuresOf bs)
+unfolding together
+counted-first f b bs = same-figures (omega arith)
+
+none-together : (f : Figures) → together (figuresOf []) f ≡ f
+unfolding together
+none-together f = same-figures (omega arith)
+
+together-none : (f : Figures) → together f (figuresOf []) ≡ f
+unfolding together
+together-none f = same-figures (omega arith)
+
+-- a block's words are free or used, and it is one block
+pub counted-words : (f : Figures) (b : Block) → counted f b .free + counted f b .used ≡ f .free + f .used + b .size
+unfolding together
+counted-words f b = either (b .used) (λ e. rw e (omega arith)) (λ e. rw e (omega arith))
+
+pub counted-blocks : (f : Figures) (b : Block) → counted f b .freeblocks + counted f b .usedblocks ≡ f .freeblocks + f .usedblocks + 1
+unfolding together
+counted-blocks f b = either (b .used) (λ e. rw e (omega arith)) (λ e. rw e (omega arith))
+
+-- THE FIGURES SO FAR AND A WALK
+
+abbrev pub joined : Figures → Walk → Walked
+joined f damaged = Damaged
+joined f (whole bs) = Whole (together f (figuresOf bs))
+
+-- nothing so far: the walk is left
+pub joined-start : (x : Walk) → joined (figuresOf []) x ≡ walkedOf x
+joined-start damaged = refl
+joined-start (whole bs) = ap Whole (none-together (figuresOf bs))
+
+joined-after : (f : Figures) (b : Block) (x : Walk) → joined f (after b x) ≡ joined (counted f b) x
+joined-after f b damaged = refl
+joined-after f b (whole bs) = ap Whole (counted-first f b bs)
+
+-- THE WORDS OF A BLOCK
+
+-- the rest of a block is passed over
+pass : (n : ℕ) (l : List ℕ) → n ≤ length l → blocksFrom n l ≡ blocksFrom 0 (drop n l)
+unfolding blocksFrom
+pass zero l h = refl
+pass (suc n) [] h = absurd (omega arith)
+pass (suc n) (x ∷ l) h = pass n l (omega arith)
+
+-- a block that runs past the end
+past-end : (n : ℕ) (l : List ℕ) → length l < n → blocksFrom n l ≡ damaged
+unfolding blocksFrom
+past-end zero l h = absurd (omega arith)
+past-end (suc n) [] h = refl
+past-end (suc n) (x ∷ l) h = past-end n l (omega arith)
+
+module _ (f : Figures) (l : List ℕ) (at : ℕ) where
+  -- nothing is left: the figures are the walk's
+  pub joined-end : length l ≤ at → joined f (blocksFrom 0 (drop at l)) ≡ Whole f
+  unfolding blocksFrom
+  joined-end h = rw (drop-of-length-le l h) (ap Whole (together-none f))
+
+  module _ (here : at < length l) where
+    abbrev first : Block
+    first = blockOf (getD l at 0)
+
+    -- the first word of a block of size 0
+    pub joined-zero : first .size ≡ 0 → joined f (blocksFrom 0 (drop at l)) ≡ Damaged
+    unfolding blocksFrom
+    joined-zero e = rw (drop-cons l at 0 here, e)
+
+    module _ (some : first .size ≢ 0) where
+      opened : blocksFrom 0 (drop at l) ≡ after first (blocksFrom (first .size - 1) (drop (suc at) l))
+      unfolding blocksFrom
+      opened = rw (drop-cons l at 0 here, ne-eqb (first .size) 0 some)
+
+      -- a block that does not fit
+      pub joined-out : length l - at < first .size → joined f (blocksFrom 0 (drop at l)) ≡ Damaged
+      joined-out h =
+          let k : length (drop (suc at) l) < first .size - 1 = simp length-drop (omega arith) in
+          rw (opened, past-end (first .size - 1) (drop (suc at) l) k)
+
+      -- a block that fits
+      pub joined-next : first .size ≤ length l - at → joined f (blocksFrom 0 (drop at l)) ≡ joined (counted f first) (blocksFrom 0 (drop (at + first .size) l))
+      joined-next h =
+          let n : ℕ = first .size - 1 in
+          let k : n ≤ length (drop (suc at) l) = simp length-drop (omega arith) in
+          let e : suc at + n ≡ at + first .size = omega arith in
+          rw (opened, pass n (drop (suc at) l) k, drop-drop, e) (joined-after f first (blocksFrom 0 (drop (at + first .size) l)))
