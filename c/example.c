@@ -1,0 +1,142 @@
+/* A pass through the C interface: start-up, a dump, a load, pool statistics, slots until the dump is whole, refusals, and blocks that are none.
+ * It prints what it does, and exits 0 only if all is as expected.
+ *   rt staticlib capi && gcc -O2 -Wall -Wextra -o example c/example.c target/staticlib/libcapi.a && ./example */
+#include "leatgarnet.h"
+#include <stdio.h>
+#include <string.h>
+
+enum { UNIT = 3, IMAGE_WORDS = 2048, FIRST = 0x1000, SECOND = 0x8000, DUMP_WORDS = 1500 };
+
+static int failed = 0;
+
+static void expect(const char *what, uint32_t got, uint32_t want)
+{
+    printf("%s: %u%s\n", what, (unsigned)got, got == want ? "" : "   NOT AS EXPECTED");
+    failed |= got != want;
+}
+
+static uint32_t state[LG_STATE_WORDS];
+static uint32_t image[IMAGE_WORDS];
+static uint8_t packet[60], reply[32], telemetry[4092];
+
+/* A command written, read back, and sent. */
+static uint32_t send(const char *name, const uint32_t command[LG_COMMAND_WORDS])
+{
+    uint32_t bytes = 99, again[LG_COMMAND_WORDS], reply_bytes = 99, number;
+    printf("-- %s\n", name);
+    expect("write", lg_write_command(command, LG_COMMAND_WORDS, packet, sizeof packet, &bytes), 0);
+    expect("read", lg_read_command(packet, bytes, again, LG_COMMAND_WORDS), 0);
+    expect("read back as written", memcmp(again, command, sizeof again) == 0, 1);
+    number = lg_command(state, LG_STATE_WORDS, packet, bytes, image, IMAGE_WORDS, reply, sizeof reply, &reply_bytes);
+    expect("reply bytes", reply_bytes, number == 0 && command[0] == 7 ? 32 : 0);
+    return number;
+}
+
+static uint32_t big_endian(const uint8_t *p)
+{
+    return (uint32_t)p[0] << 24 | (uint32_t)p[1] << 16 | (uint32_t)p[2] << 8 | p[3];
+}
+
+static void start(void)
+{
+    uint32_t table[LG_TABLE_WORDS] = {
+        UNIT, 2,
+        SECOND, 8, 0, 0,                       /* pool 0 in the second region, and no pool 1 */
+        FIRST, 2000, 2, SECOND, 48, 3,         /* the first region may be dumped, the second loaded and dumped */
+    };
+    printf("-- start-up\n");
+    expect("table of another length", lg_start_up(table, 53, state, LG_STATE_WORDS), 17);
+    table[8] = 4;
+    expect("rights out of bounds", lg_start_up(table, LG_TABLE_WORDS, state, LG_STATE_WORDS), 17);
+    expect("regions then", state[0], 0);
+    table[8] = 2;
+    expect("start-up", lg_start_up(table, LG_TABLE_WORDS, state, LG_STATE_WORDS), 0);
+    expect("regions", state[0], 2);
+    expect("unit", state[53], UNIT);
+    expect("last place served", state[74], 3);
+}
+
+static void dump(void)
+{
+    const uint32_t command[LG_COMMAND_WORDS] = { 0, 1, UNIT, 77, DUMP_WORDS, FIRST };
+    expect("dump", send("dump of 1,500 words", command), 0);
+    expect("busy", state[54], 1);
+    expect("transaction", state[55], 77);
+    expect("words asked for", state[57], DUMP_WORDS);
+    expect("same transaction again", send("the same dump", command), 12);
+}
+
+static void load(void)
+{
+    const uint32_t command[LG_COMMAND_WORDS] = { 4, 2, UNIT, 78, 3, SECOND + 40, 0, 0xCAFE, 0xBEEF, 0xF00D };
+    expect("load", send("load of three words", command), 0);
+    expect("first word", image[2010], 0xCAFE);
+    expect("third word", image[2012], 0xF00D);
+    expect("word after", image[2013], 2013);
+}
+
+static void pool(void)
+{
+    const uint32_t command[LG_COMMAND_WORDS] = { 7, 3, UNIT, 79 };
+    image[2000] = 8;                            /* one block of eight words */
+    expect("pool statistics", send("pool statistics", command), 0);
+    image[2000] = 9;                            /* a block that runs past the pool */
+    expect("damaged pool", send("pool statistics, damaged", command), 15);
+}
+
+static void slots(void)
+{
+    uint32_t sent = 0, tick = 5, length, fields[LG_PACKET_WORDS], data_bytes;
+    printf("-- slots\n");
+    while (lg_slot(state, LG_STATE_WORDS, tick, image, IMAGE_WORDS, telemetry, sizeof telemetry, &length) == 0) {
+        expect("packet", lg_read_packet(telemetry, length, fields, LG_PACKET_WORDS, &data_bytes), 0);
+        expect("tick", fields[3], tick);
+        expect("address", fields[6], FIRST + 4 * sent);
+        expect("bytes", data_bytes, 4 * fields[7]);
+        expect("first word", big_endian(telemetry + 28), image[sent]);
+        expect("last word", big_endian(telemetry + length - 4), image[sent + fields[7] - 1]);
+        sent += fields[7];
+        tick++;
+    }
+    expect("words sent", sent, DUMP_WORDS);
+    expect("slots with nothing to send", lg_slot(state, LG_STATE_WORDS, tick, image, IMAGE_WORDS, telemetry, sizeof telemetry, &length), 16);
+    expect("its length", length, 0);
+    expect("place idle", state[54], 0);
+}
+
+static void refusals(void)
+{
+    const uint32_t no_right[LG_COMMAND_WORDS] = { 4, 4, UNIT, 80, 1, FIRST, 0, 1 };
+    const uint32_t other_code[LG_COMMAND_WORDS] = { 2, 4, UNIT, 80 };
+    const uint32_t wide_size[LG_COMMAND_WORDS] = { 0, 4, UNIT, 80, 65536, FIRST };
+    uint32_t length = 99, data_bytes = 99, fields[LG_PACKET_WORDS] = { 0 }, refused = state[78], before[LG_STATE_WORDS];
+    expect("load without the right", send("refusals", no_right), 11);
+    expect("refused count", state[78], refused + 1);
+    expect("function code 2", lg_write_command(other_code, LG_COMMAND_WORDS, packet, sizeof packet, &length), 6);
+    expect("size of 17 bits", lg_write_command(wide_size, LG_COMMAND_WORDS, packet, sizeof packet, &length), 9);
+    expect("command block of 17 words", lg_write_command(no_right, 17, packet, sizeof packet, &length), 3);
+    expect("its length", length, 0);
+    expect("no packet", lg_read_packet(packet, 0, fields, LG_PACKET_WORDS, &data_bytes), 4);
+    expect("its bytes", data_bytes, 0);
+    expect("packet block of 7 words", lg_read_packet(packet, 0, fields, 7, &data_bytes), 3);
+    state[53] = 256;
+    memcpy(before, state, sizeof before);
+    expect("unit out of bounds", lg_slot(state, LG_STATE_WORDS, 0, image, IMAGE_WORDS, telemetry, sizeof telemetry, &length), 1);
+    expect("state left as it was", memcmp(before, state, sizeof before) == 0, 1);
+    state[53] = UNIT;
+    expect("state block of 78 words", lg_slot(state, 78, 0, image, IMAGE_WORDS, telemetry, sizeof telemetry, &length), 1);
+}
+
+int main(void)
+{
+    for (uint32_t i = 0; i < IMAGE_WORDS; i++)
+        image[i] = i;
+    start();
+    dump();
+    load();
+    pool();
+    slots();
+    refusals();
+    printf(failed ? "FAILED\n" : "all as expected\n");
+    return failed;
+}

@@ -1,0 +1,6 @@
+pub mod Runs
+pub mod Steps
+pub mod Writing
+pub mod Words
+pub mod Back
+pub mod Forth

@@ -1,0 +1,164 @@
+-- What the steps of the two readers leave.
+-- Assumes nothing.
+use mathlib.Core.Path.{_≡_, refl, sym, ap, _∙_}
+use mathlib.Core.Logic.{_≢_}
+use mathlib.Core.List.{List, [], _∷_, _++_, append-nil}
+use Prim.Native.Nat.{ℕ, _+_, _*_, _≤_}
+use native.Mathlib.Omega.{arith}
+use lib.ListN.{length, getD, length-drop, length-append}
+use lib.Seq.{drop-length}
+use borrow.Author.Tests.{eq-eqb, ne-eqb}
+use Rattle.lists.specs.Splice.{splice}
+use Rattle.lists.proofs.Runs.{splice-splice}
+use Rattle.lists.proofs.Splice.{splice-length}
+use Rattle.wire.proofs.Words.{words-at-length}
+use Rattle.rules.specs.Ground.{readerRows, packetRows, wordsBeside, fieldsRead, concludeRead, readCommand, concludePacket, readPacket, packetFields, packetNumber}
+use Rattle.rules.specs.Packets.{codeOf, decode}
+use Rattle.rules.specs.Results.{number, lowest}
+use Rattle.rules.specs.States.{pieceWords}
+use Rattle.rules.specs.declared.Command.{Command}
+use Rattle.rules.specs.declared.Command.the-variants.{Dump, Cancel, Load, PoolStatistics}
+use Rattle.rules.specs.declared.CommandRead.{CommandRead}
+use Rattle.rules.specs.declared.Decoded.{Decoded}
+use Rattle.rules.specs.declared.Decoded.the-variants.{Unknown, Known}
+use Rattle.rules.specs.declared.DumpPacket.{DumpPacket}
+use Rattle.rules.specs.declared.PacketReading.{PacketReading}
+use Rattle.rules.specs.declared.PacketReading.the-variants.{NoPacket, Packet}
+use Rattle.rules.specs.declared.Reading.the-variants.{Unread, Read}
+use Rattle.rules.specs.declared.Refusal.{Refusal}
+use Rattle.rules.specs.declared.Telecommand.{Telecommand}
+use Rattle.rules.specs.declared.Verdict.{Verdict}
+use Rattle.rules.specs.declared.Verdict.the-variants.{Accepted, Rejected}
+use Rattle.rules.proofs.PacketTests.{packet-out, packet-in}
+use Rattle.capi.specs.Commands.{bodyWords, headWords, lgReadCommand, fieldWords, lgReadPacket}
+
+-- a write of all words of a list
+splice-all : (l v : List ℕ) → length v ≡ length l → splice l 0 v ≡ v
+unfolding splice
+splice-all l v e = let k : 0 + length v ≡ length l = omega arith in rw (k, drop-length) (append-nil v)
+
+-- THE COMMAND READER
+
+body-length : (k : Command) → length (bodyWords k) ≡ 3
+body-length (Dump q) = refl
+body-length Cancel = refl
+body-length (Load q) = refl
+body-length (PoolStatistics i) = refl
+
+three-words : (k : Command) → (getD (bodyWords k) 0 0 ∷ getD (bodyWords k) 1 0 ∷ getD (bodyWords k) 2 0 ∷ []) ≡ bodyWords k
+three-words (Dump q) = refl
+three-words Cancel = refl
+three-words (Load q) = refl
+three-words (PoolStatistics i) = refl
+
+pub head-is : (f : Telecommand) (code : ℕ) → code ≡ codeOf (f .command) → (body : List ℕ) → body ≡ bodyWords (f .command)
+    → (code ∷ f .header .count ∷ f .header .unit ∷ f .header .transaction ∷ getD body 0 0 ∷ getD body 1 0 ∷ getD body 2 0 ∷ []) ≡ headWords f
+head-is f code ec body eb =
+    rw (ec, eb)
+    (ap (λ (v : List ℕ). codeOf (f .command) ∷ f .header .count ∷ f .header .unit ∷ f .header .transaction ∷ v) (three-words (f .command)))
+
+-- the data words are eleven
+module _ (p : List ℕ) where
+  beside-length : (k : Command) → length (wordsBeside p k) ≡ 11
+  beside-length (Dump q) = refl
+  beside-length Cancel = refl
+  beside-length (Load q) = words-at-length 11 p 16
+  beside-length (PoolStatistics i) = refl
+
+  fields-length : (d : Decoded) → length (fieldsRead p d .words) ≡ 11
+  fields-length Unknown = refl
+  fields-length (Known k) = beside-length k
+
+  conclude-length : (v : Verdict) → length (concludeRead p v .words) ≡ 11
+  conclude-length (Rejected r) = refl
+  conclude-length Accepted = fields-length (decode p)
+
+  words-length : length (readCommand p .words) ≡ 11
+  unfolding readCommand
+  words-length = conclude-length (lowest (readerRows p))
+
+module _ (p b : List ℕ) where
+  pub command-other : length b ≢ 18 → (3 ≡ lgReadCommand p b .number) × (b ≡ lgReadCommand p b .block)
+  unfolding lgReadCommand
+  command-other n = rw (ne-eqb (length b) 18 n) (refl, refl)
+
+  module _ (n : length b ≡ 18) (d : CommandRead) (ed : d ≡ readCommand p) where
+    pub command-unread : (r : Refusal) → d .reading ≡ Unread r → (m : ℕ) → m ≡ number r → (m ≡ lgReadCommand p b .number) × (b ≡ lgReadCommand p b .block)
+    unfolding lgReadCommand
+    command-unread r er m em = rw (eq-eqb (length b) 18 n, ← ed, er) (em, refl)
+
+    pub command-done : (f : Telecommand) → d .reading ≡ Read f → (h : List ℕ) → h ≡ headWords f
+        → (b₁ : List ℕ) → (0 + length h ≤ length b → b₁ ≡ splice b 0 h)
+        → (b₂ : List ℕ) → (7 + length (d .words) ≤ length b₁ → b₂ ≡ splice b₁ 7 (d .words))
+        → (0 ≡ lgReadCommand p b .number) × (b₂ ≡ lgReadCommand p b .block)
+    unfolding lgReadCommand
+    command-done f ef h eh b₁ e₁ b₂ e₂ =
+        let k = body-length (f .command) in
+        let seven : length h ≡ 7 = rw eh (omega arith) in
+        let eleven : length (d .words) ≡ 11 = rw ed (words-length p) in
+        let one = e₁ (omega arith) in
+        let same : length b₁ ≡ length b = ap length one ∙ splice-length b 0 h (omega arith) in
+        let two = e₂ (omega arith) in
+        let all : b₂ ≡ h ++ d .words =
+        two ∙ ap (λ (l : List ℕ). splice l 7 (d .words)) one ∙ splice-splice b h (d .words) 0 7 (omega arith) (omega arith)
+        ∙ splice-all b (h ++ d .words) (simp length-append (omega arith))
+        in
+        rw (eq-eqb (length b) 18 n, ← ed, ef) (refl, all ∙ ap (λ (v : List ℕ). v ++ d .words) eh)
+
+-- THE DUMP PACKET READER
+
+wordsRead : PacketReading → ℕ
+wordsRead (NoPacket r) = 0
+wordsRead (Packet f) = f .words
+
+module _ (p : List ℕ) (r : PacketReading) (er : r ≡ readPacket p .reading) where
+  -- the packet's words, and how many bytes its data part has
+  record PartIs (f : DumpPacket) : Type 0 where
+    low : f .words ≤ 1016
+    bytes : 4 * f .words ≡ length (readPacket p .part)
+
+  part-is : (f : DumpPacket) → r ≡ Packet f → PartIs f
+  unfolding wordsRead pieceWords
+  part-is f ef =
+      let zero : packetNumber (readPacket p .reading) ≡ 0 = rw (← er, ef) in
+      let i = packet-out p zero in
+      let q = packet-in p i in
+      let same : f .words ≡ packetFields p .words = ap wordsRead (sym ef ∙ er) ∙ rw q in
+      let m = i .most in
+      let b = i .bytes in
+      record { low = omega arith; bytes = rw (q, length-drop) (omega arith) }
+
+  pub packet-low : (f : DumpPacket) → r ≡ Packet f → f .words ≤ 1016
+  packet-low f ef = part-is f ef .low
+
+  packet-bytes : (f : DumpPacket) → r ≡ Packet f → 4 * f .words ≡ length (readPacket p .part)
+  packet-bytes f ef = part-is f ef .bytes
+
+-- a packet that is refused has no data part
+conclude-no-part : (p : List ℕ) (v : Verdict) (r : Refusal) → concludePacket p v .reading ≡ NoPacket r → 0 ≡ length (concludePacket p v .part)
+conclude-no-part p (Rejected q) r e = refl
+conclude-no-part p Accepted r e = let z : _≡_ {A = ℕ} 0 1 = cc in absurd (omega arith)
+
+no-part : (p : List ℕ) {r : Refusal} → readPacket p .reading ≡ NoPacket r → 0 ≡ length (readPacket p .part)
+unfolding readPacket
+no-part p {r} e = conclude-no-part p (lowest (packetRows p)) r e
+
+module _ (p b : List ℕ) where
+  pub packet-other : length b ≢ 8 → (3 ≡ lgReadPacket p b .number) × (b ≡ lgReadPacket p b .block) × (0 ≡ lgReadPacket p b .bytes)
+  unfolding lgReadPacket
+  packet-other n = rw (ne-eqb (length b) 8 n) (refl, refl, refl)
+
+  module _ (n : length b ≡ 8) (d : PacketReading) (ed : d ≡ readPacket p .reading) where
+    pub packet-unread : (r : Refusal) → d ≡ NoPacket r → (m : ℕ) → m ≡ number r
+        → (m ≡ lgReadPacket p b .number) × (b ≡ lgReadPacket p b .block) × (0 ≡ lgReadPacket p b .bytes)
+    unfolding lgReadPacket
+    packet-unread r er m em = let z = no-part p (sym ed ∙ er) in rw (eq-eqb (length b) 8 n, ← ed, er) (em, refl, z)
+
+    pub packet-done : (f : DumpPacket) → d ≡ Packet f → (v : List ℕ) → v ≡ fieldWords f → (b′ : List ℕ) → (0 + length v ≤ length b → b′ ≡ splice b 0 v)
+        → (0 ≡ lgReadPacket p b .number) × (b′ ≡ lgReadPacket p b .block) × (4 * f .words ≡ lgReadPacket p b .bytes)
+    unfolding lgReadPacket
+    packet-done f ef v ev b′ e =
+        let eight : length v ≡ 8 = rw ev in
+        let all : b′ ≡ fieldWords f = e (omega arith) ∙ splice-all b v (omega arith) ∙ ev in
+        let bytes = packet-bytes p d ed f ef in
+        rw (eq-eqb (length b) 8 n, ← ed, ef) (refl, all, bytes)

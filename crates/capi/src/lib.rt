@@ -1,0 +1,300 @@
+// The C interface: the calls of the service over blocks of words that a C caller lends. Its header is c/leatgarnet.h.
+ghost use mathlib.Core.Path.{_≡_};
+ghost use Prim.Native.Nat.{_<_, min};
+ghost use lib.ListN.{length};
+ghost use Rattle.rules.specs.Packets.{codeOf};
+ghost use Rattle.rules.specs.Results.{answerNumber, answerLength};
+ghost use Rattle.block.specs.Blocks.{blockOf};
+ghost use Rattle.capi.specs.Calls.{lgStartUp, lgSlot, lgCommand};
+ghost use Rattle.capi.specs.Commands.{headerIn, sizeIn, requestIn, commandIn, dataIn, lgWriteCommand, bodyWords, headWords, lgReadCommand, fieldWords, lgReadPacket};
+use block::pack;
+use block::put_words;
+use block::unpack;
+use block::unpack_table;
+use block::word_at;
+use command::command;
+use command_reader::read_command;
+use command_writer::write_command;
+use packet_reader::read_packet;
+use results::answer_length;
+use results::answer_number;
+use results::refusal_number;
+use results::verdict_number;
+use rules::Address;
+use rules::Command;
+use rules::Decoded;
+use rules::DumpPacket;
+use rules::Header;
+use rules::PacketReading;
+use rules::Reading;
+use rules::Request;
+use rules::Returned;
+use rules::Telecommand;
+use slot::slot;
+use state::start_up;
+
+// START-UP
+
+#[no_mangle]
+pub extern "C" fn lg_start_up(table: &[u32], state: &mut [u32]) -> u32
+    ensures { λ n. ⌜ (n ≡ lgStartUp (now (table .entry)) (now (state .entry)) .number) × (now (state .exit) ≡ lgStartUp (now (table .entry)) (now (state .entry)) .state) ⌝ }
+{
+    if table.len() != 54 {
+        return 17;
+    }
+    if state.len() != 79 {
+        return 17;
+    }
+    let t = unpack_table(table);
+    let regions = t.regions;
+    let pools = t.pools;
+    let started = start_up(regions, t.count, pools, t.unit);
+    let s = started.state;
+    let verdict = started.verdict;
+    pack(s, state);
+    verdict_number(verdict)
+}
+
+// CALLS ON A STATE
+
+// Hands over what a call returned: the state's block, the bytes written and the number.
+fn hand_over(r: Returned, state: &mut [u32], bytes: &mut u32) -> u32
+    requires { ⌜ (length (now state) ≡ 79) × (answerLength (r .answer) < 4294967296) ⌝ }
+    ensures { λ n. ⌜ (n ≡ answerNumber (r .answer)) × (now (state .exit) ≡ blockOf (r .state)) × (now (bytes .exit) ≡ answerLength (r .answer)) ⌝ }
+{
+    let answer = r.answer;
+    let s = r.state;
+    pack(s, state);
+    *bytes = answer_length(answer) as u32;
+    answer_number(answer)
+}
+
+#[no_mangle]
+pub extern "C" fn lg_slot(
+    state: &mut [u32],
+    tick: u32,
+    image: &[u32],
+    buffer: &mut [u8],
+    bytes: &mut u32,
+) -> u32
+    ensures { λ n. ⌜ (n ≡ lgSlot (now (state .entry)) tick (now (image .entry)) (now (buffer .entry)) .number) × (now (state .exit) ≡ lgSlot (now (state .entry)) tick (now (image .entry)) (now (buffer .entry)) .state) × (now (buffer .exit) ≡ lgSlot (now (state .entry)) tick (now (image .entry)) (now (buffer .entry)) .buffer) × (now (bytes .exit) ≡ lgSlot (now (state .entry)) tick (now (image .entry)) (now (buffer .entry)) .bytes) ⌝ }
+{
+    let u = unpack(state);
+    if !u.valid {
+        *bytes = 0;
+        return 1;
+    }
+    let s = u.state;
+    let r = slot(s, tick, image, buffer);
+    hand_over(r, state, bytes)
+}
+
+#[no_mangle]
+pub extern "C" fn lg_command(
+    state: &mut [u32],
+    packet: &[u8],
+    image: &mut [u32],
+    reply: &mut [u8],
+    bytes: &mut u32,
+) -> u32
+    ensures { λ n. ⌜ (n ≡ lgCommand (now (state .entry)) (now (packet .entry)) (now (image .entry)) (now (reply .entry)) .number) × (now (state .exit) ≡ lgCommand (now (state .entry)) (now (packet .entry)) (now (image .entry)) (now (reply .entry)) .state) × (now (image .exit) ≡ lgCommand (now (state .entry)) (now (packet .entry)) (now (image .entry)) (now (reply .entry)) .image) × (now (reply .exit) ≡ lgCommand (now (state .entry)) (now (packet .entry)) (now (image .entry)) (now (reply .entry)) .buffer) × (now (bytes .exit) ≡ lgCommand (now (state .entry)) (now (packet .entry)) (now (image .entry)) (now (reply .entry)) .bytes) ⌝ }
+{
+    let u = unpack(state);
+    if !u.valid {
+        *bytes = 0;
+        return 1;
+    }
+    let s = u.state;
+    let r = command(s, packet, image, reply);
+    hand_over(r, state, bytes)
+}
+
+// THE COMMAND WRITER
+
+fn at_most_16(w: u32) -> u16
+    ensures { λ r. ⌜ r ≡ min 65535 w ⌝ }
+{
+    if w < 65535 { w as u16 } else { 65535 }
+}
+
+fn at_most_8(w: u32) -> u8
+    ensures { λ r. ⌜ r ≡ min 255 w ⌝ }
+{
+    if w < 255 { w as u8 } else { 255 }
+}
+
+fn size_in(w: u32) -> u16
+    ensures { λ r. ⌜ r ≡ sizeIn w ⌝ }
+{
+    if w <= 65535 { w as u16 } else { 0 }
+}
+
+fn header_in(b: &[u32]) -> Header
+    ensures { λ r. ⌜ r ≡ headerIn (now (b .entry)) ⌝ }
+{
+    let count = at_most_16(word_at(b, 1));
+    let unit = at_most_8(word_at(b, 2));
+    let transaction = at_most_16(word_at(b, 3));
+    Header {
+        count,
+        unit,
+        transaction,
+    }
+}
+
+fn request_in(b: &[u32]) -> Request
+    ensures { λ r. ⌜ r ≡ requestIn (now (b .entry)) ⌝ }
+{
+    let size = size_in(word_at(b, 4));
+    let address = Address(word_at(b, 5));
+    Request { size, address }
+}
+
+fn command_in(b: &[u32]) -> Decoded
+    ensures { λ r. ⌜ r ≡ commandIn (now (b .entry)) ⌝ }
+{
+    let code = word_at(b, 0);
+    match code {
+        0 => Decoded::Known(Command::Dump(request_in(b))),
+        1 => Decoded::Known(Command::Cancel),
+        4 => Decoded::Known(Command::Load(request_in(b))),
+        7 => Decoded::Known(Command::PoolStatistics(at_most_16(word_at(b, 6)))),
+        _ => Decoded::Unknown,
+    }
+}
+
+fn data_in(b: &[u32]) -> [u32; 11]
+    ensures { λ r. ⌜ r ≡ dataIn (now (b .entry)) ⌝ }
+{
+    let mut words = [0u32; 11];
+    let mut i: usize = 0;
+    while i < 11 {
+        words[i] = word_at(b, 7 + i);
+        i += 1;
+    }
+    words
+}
+
+#[no_mangle]
+pub extern "C" fn lg_write_command(command: &[u32], buffer: &mut [u8], bytes: &mut u32) -> u32
+    ensures { λ n. ⌜ (n ≡ lgWriteCommand (now (command .entry)) (now (buffer .entry)) .number) × (now (buffer .exit) ≡ lgWriteCommand (now (command .entry)) (now (buffer .entry)) .buffer) × (now (bytes .exit) ≡ lgWriteCommand (now (command .entry)) (now (buffer .entry)) .bytes) ⌝ }
+{
+    *bytes = 0;
+    if command.len() != 18 {
+        return 3;
+    }
+    let decoded = command_in(command);
+    match decoded {
+        Decoded::Unknown => {
+            return 6;
+        }
+        Decoded::Known(k) => {
+            let h = header_in(command);
+            let words = data_in(command);
+            let answer = write_command(h, k, &words, buffer);
+            *bytes = answer_length(answer) as u32;
+            return answer_number(answer);
+        }
+    }
+}
+
+// THE READERS
+
+fn code_word(k: Command) -> u32
+    ensures { λ r. ⌜ r ≡ codeOf k ⌝ }
+{
+    match k {
+        Command::Dump(_) => 0,
+        Command::Cancel => 1,
+        Command::Load(_) => 4,
+        Command::PoolStatistics(_) => 7,
+    }
+}
+
+fn body_words(k: Command) -> [u32; 3]
+    ensures { λ r. ⌜ r ≡ bodyWords k ⌝ }
+{
+    match k {
+        Command::Dump(q) => [q.size as u32, q.address.0, 0],
+        Command::Cancel => [0; 3],
+        Command::Load(q) => [q.size as u32, q.address.0, 0],
+        Command::PoolStatistics(i) => [0, 0, i as u32],
+    }
+}
+
+fn head_words(f: Telecommand) -> [u32; 7]
+    ensures { λ r. ⌜ r ≡ headWords f ⌝ }
+{
+    let k = f.command;
+    let code = code_word(k);
+    let body = body_words(k);
+    [
+        code,
+        f.header.count as u32,
+        f.header.unit as u32,
+        f.header.transaction as u32,
+        body[0],
+        body[1],
+        body[2],
+    ]
+}
+
+#[no_mangle]
+pub extern "C" fn lg_read_command(packet: &[u8], command: &mut [u32]) -> u32
+    ensures { λ n. ⌜ (n ≡ lgReadCommand (now (packet .entry)) (now (command .entry)) .number) × (now (command .exit) ≡ lgReadCommand (now (packet .entry)) (now (command .entry)) .block) ⌝ }
+{
+    if command.len() != 18 {
+        return 3;
+    }
+    let read = read_command(packet);
+    let reading = read.reading;
+    let words = read.words;
+    match reading {
+        Reading::Unread(r) => {
+            return refusal_number(r);
+        }
+        Reading::Read(f) => {
+            let head = head_words(f);
+            put_words(command, 0, &head);
+            put_words(command, 7, &words);
+            return 0;
+        }
+    }
+}
+
+fn field_words(f: DumpPacket) -> [u32; 8]
+    ensures { λ r. ⌜ r ≡ fieldWords f ⌝ }
+{
+    [
+        f.header.count as u32,
+        f.header.unit as u32,
+        f.header.transaction as u32,
+        f.tick,
+        f.range.start.0,
+        f.range.words,
+        f.here.0,
+        f.words,
+    ]
+}
+
+#[no_mangle]
+pub extern "C" fn lg_read_packet(packet: &[u8], fields: &mut [u32], bytes: &mut u32) -> u32
+    ensures { λ n. ⌜ (n ≡ lgReadPacket (now (packet .entry)) (now (fields .entry)) .number) × (now (fields .exit) ≡ lgReadPacket (now (packet .entry)) (now (fields .entry)) .block) × (now (bytes .exit) ≡ lgReadPacket (now (packet .entry)) (now (fields .entry)) .bytes) ⌝ }
+{
+    *bytes = 0;
+    if fields.len() != 8 {
+        return 3;
+    }
+    let reading = read_packet(packet);
+    match reading {
+        PacketReading::NoPacket(r) => {
+            return refusal_number(r);
+        }
+        PacketReading::Packet(f) => {
+            let v = field_words(f);
+            put_words(fields, 0, &v);
+            *bytes = 4 * f.words;
+            return 0;
+        }
+    }
+}

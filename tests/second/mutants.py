@@ -1,0 +1,155 @@
+#!/usr/bin/env python3
+"""Mutants: a trial library, the model behind the C functions, with one fault put into its model, linked behind the door; compare must find each.
+Usage: python3 mutants.py [calls [first [last]]]      (works in target/mutants; two at a time)"""
+import concurrent.futures, os, shutil, subprocess, sys
+
+HERE = os.path.dirname(os.path.abspath(__file__))
+WORK = os.path.join(HERE, "target", "mutants")
+CALLS = sys.argv[1] if len(sys.argv) > 1 else "200000"
+FIRST = int(sys.argv[2]) if len(sys.argv) > 2 else 0
+LAST = int(sys.argv[3]) if len(sys.argv) > 3 else 10 ** 6
+M, D = "model.rs", "door.rs"
+# (name, file, old, new)
+MUTANTS = [
+    ("none (must agree)", M, "", ""),
+    ("address sum wraps", M, "u64::from(start.0) + 4 * u64::from(words)", "u64::from(start.0.wrapping_add(words.wrapping_mul(4)))"),
+    ("16 regions refused", M, "setup.region_count as usize > REGIONS_MOST", "setup.region_count as usize >= REGIONS_MOST"),
+    ("region of 1,048,576 refused", M, "region.size <= REGION_WORDS_MOST", "region.size < REGION_WORDS_MOST"),
+    ("region of 1,048,577 taken", M, "region.size <= REGION_WORDS_MOST", "region.size <= REGION_WORDS_MOST + 1"),
+    ("region end 2^32 refused", M, "end_of(region.start, region.size) <= MEMORY_END", "end_of(region.start, region.size) < MEMORY_END"),
+    ("region end past 2^32 taken", M, "end_of(region.start, region.size) <= MEMORY_END", "end_of(region.start, region.size) <= MEMORY_END + 4"),
+    ("region start unaligned taken", M, "aligned(region.start) && region.size >= 1", "region.size >= 1"),
+    ("touching regions refused", M, "end_of(before.start, before.size) > u64::from(after.start.0)", "end_of(before.start, before.size) >= u64::from(after.start.0)"),
+    ("overlap by a word taken", M, "end_of(before.start, before.size) > u64::from(after.start.0)", "end_of(before.start, before.size) > u64::from(after.start.0) + 4"),
+    ("range over touching regions", M, "end_of(start, words) <= end_of(region.start, region.size) {", "(end_of(start, words) <= end_of(region.start, region.size) || setup.regions.get(i + 1).is_some_and(|n| i + 1 < setup.region_count as usize && u64::from(n.start.0) == end_of(region.start, region.size) && end_of(start, words) <= end_of(n.start, n.size) && start.0 < n.start.0)) {"),
+    ("no pool but start taken", M, "return pool.start == Address(0);", "return true;"),
+    ("pool unaligned taken", M, "if !aligned(pool.start) {", "if false {"),
+    ("pool without dump right", M, "Some(i) => setup.regions[i].dump,\n    }\n}", "Some(_) => true,\n    }\n}"),
+    ("unit 16 taken", M, "&& setup.unit <= UNIT_MOST", "&& setup.unit <= 16"),
+    ("unused entries kept at start-up", M, "kept.regions[i] = NO_REGION;", "kept.regions[i] = setup.regions[i];"),
+    ("unused entries must be zero", M, "    transactions_differ(&state.places)\n}", "    transactions_differ(&state.places) && state.setup.regions[state.setup.region_count as usize..].iter().all(|r| *r == NO_REGION)\n}"),
+    ("unused entries cleared by commands", M, "after.accepted = (after.accepted + 1) % 65_536;", "after.accepted = (after.accepted + 1) % 65_536;\n    for i in after.setup.region_count as usize..16 { after.setup.regions[i] = NO_REGION; }"),
+    ("fresh last place 0", M, "last: 3, count_785: 0", "last: 0, count_785: 0"),
+    ("last 4 taken", M, "state.last > 3", "state.last > 4"),
+    ("count 785 16,384 taken", M, "state.count_785 > PACKET_COUNT_MOST ||", "state.count_785 > PACKET_COUNT_MOST + 1 ||"),
+    ("count 788 16,384 taken", M, "|| state.count_788 > PACKET_COUNT_MOST", "|| state.count_788 > PACKET_COUNT_MOST + 1"),
+    ("busy transaction 4,096 taken", M, "dump.transaction > TRANSACTION_MOST", "dump.transaction > TRANSACTION_MOST + 1"),
+    ("busy request 65,536 taken", M, "dump.requested < 1 || dump.requested > REQUEST_MOST", "dump.requested < 1 || dump.requested > REQUEST_MOST + 1"),
+    ("busy request 65,535 refused", M, "dump.requested < 1 || dump.requested > REQUEST_MOST", "dump.requested < 1 || dump.requested >= REQUEST_MOST"),
+    ("busy start unaligned taken", M, "if !aligned(dump.start) {", "if false {"),
+    ("busy region without right taken", M, "if !setup.regions[i].dump {\n                return false;", "if false {\n                return false;"),
+    ("sent any number", M, "dump.sent % CUT == 0 && dump.sent < dump.requested", "dump.sent < dump.requested"),
+    ("sent equal request taken", M, "dump.sent < dump.requested\n", "dump.sent <= dump.requested\n"),
+    ("shared transaction taken", M, "if a.transaction == b.transaction {\n                    return false;", "if a.transaction == b.transaction {\n                    return true;"),
+    ("length field modulo 65,536", M, "get16(bytes, 4) as usize == bytes.len() - 7", "get16(bytes, 4) as usize == (bytes.len() - 7) % 65_536"),
+    ("7 bytes read", M, "packet.len() < 8\n", "packet.len() < 9\n"),
+    ("version ignored", M, "        || version_of(packet) != 0\n        || type_of(packet) != 1", "        || type_of(packet) != 1"),
+    ("command type ignored", M, "        || type_of(packet) != 1\n", ""),
+    ("command second-header flag ignored", M, "        || second_header_flag_of(packet) != 1\n", ""),
+    ("command sequence flags ignored", M, "        || second_header_flag_of(packet) != 1\n        || sequence_flags_of(packet) != 3\n", "        || second_header_flag_of(packet) != 1\n"),
+    ("zero bit ignored", M, "        || packet[6] >= 128\n", ""),
+    ("check byte ignored", M, "        || exclusive_or(packet) != 0xFF\n", ""),
+    ("number 5 counted", M, "4 | 6 | 7 | 9..=15", "4..=7 | 9..=15"),
+    ("number 8 counted", M, "4 | 6 | 7 | 9..=15", "4 | 6..=15"),
+    ("number 4 not counted", M, "4 | 6 | 7 | 9..=15", "6 | 7 | 9..=15"),
+    ("refused count stops at 65,535", M, "(state.refused + 1) % 65_536", "(state.refused + 1).min(65_535)"),
+    ("accepted modulo 65,535", M, "(after.accepted + 1) % 65_536", "(after.accepted + 1) % 65_535"),
+    ("image may be longer", M, "if image.len() as u64 != image_words(&state.setup) {\n        return refused", "if (image.len() as u64) < image_words(&state.setup) {\n        return refused"),
+    ("slot image may be longer", M, "if image.len() as u64 != image_words(&state.setup) {\n        return slot_refused", "if (image.len() as u64) < image_words(&state.setup) {\n        return slot_refused"),
+    ("reply of 33 needed", M, "reply.len() < REPLY_BYTES", "reply.len() <= REPLY_BYTES"),
+    ("reply needed by pool statistics only", M, "if reply.len() < REPLY_BYTES {", "if reply.len() < REPLY_BYTES && packet.get(6) == Some(&7) {"),
+    ("slot buffer as the packet needs", M, "if buffer.len() < SLOT_BYTES {", "if buffer.len() < SLOT_BYTES && (buffer.len() < SLOT_BYTES - 1) {"),
+    ("9 before 8", M, "if fields.unit != state.setup.unit {", "if fields_break_bounds(&fields.command) { return refused(state, 9); }\n    if fields.unit != state.setup.unit {"),
+    ("8 before 7", M, "    let number = frame_number(packet);\n    if number != 0 {\n        return refused", "    let number = frame_number(packet);\n    if number == 7 && packet.len() > 8 && u32::from(packet[8] / 16) != state.setup.unit { return refused(state, 8); }\n    if number != 0 {\n        return refused"),
+    ("load size 12 taken as 9 lost", M, "*size > LOAD_WORDS as u32,\n        Command::Pool", "*size > 12,\n        Command::Pool"),
+    ("pool 2 as 10", M, "Command::PoolStatistics { pool } => *pool > 1,", "Command::PoolStatistics { pool } => *pool > 255,"),
+    ("dump right not asked", M, "if !region.dump {", "if false {"),
+    ("12 after 13", M, "if busy_place_with(&state.places, transaction).is_some() {\n        return refused(state, 12);", "if state.places.contains(&DumpPlace::Idle) && busy_place_with(&state.places, transaction).is_some() {\n        return refused(state, 12);"),
+    ("12 before 11", M, "    if !region.dump {", "    if busy_place_with(&state.places, transaction).is_some() { return refused(state, 12); }\n    if !region.dump {"),
+    ("highest idle place", M, "for i in (0..4).rev() {", "for i in 0..4 {"),
+    ("load right not asked", M, "if !state.setup.regions[i].load {", "if false {"),
+    ("load asks for the dump right", M, "if !state.setup.regions[i].load {", "if !state.setup.regions[i].dump {"),
+    ("load writes a word more", M, "for k in 0..size as usize {\n        image", "for k in 0..(size as usize + 1).min(11).min(image.len() - first.0) {\n        image"),
+    ("block of size 0 skipped", M, "if size == 0 || at", "let size = size.max(1);\n        if at"),
+    ("block past the end taken", M, "at + u64::from(size) > pool.len() as u64", "at + u64::from(size) > pool.len() as u64 + 1"),
+    ("largest free is the last", M, "if size > figures.largest_free {", "if true {"),
+    ("785 count raised first", M, "APID_POOL, state.count_785, REPLY_BYTES", "APID_POOL, (state.count_785 + 1) % 16_384, REPLY_BYTES"),
+    ("785 count modulo 16,383", M, "(state.count_785 + 1) % 16_384", "(state.count_785 + 1) % 16_383"),
+    ("reply's rest cleared", M, "put16(reply, 10, 0);", "put16(reply, 10, 0);\n    for b in reply[32..].iter_mut() { *b = 0; }"),
+    ("785 raised by damage", M, "None => return refused(state, 15),", "None => { let mut s = refused(state, 15); s.state.count_785 = (state.count_785 + 1) % 16_384; return s; }"),
+    ("slot searches from 0", M, "(state.last as usize + step) % 4", "(3 + step) % 4"),
+    ("slot tries the last place first", M, "(state.last as usize + step) % 4", "(state.last as usize + step - 1) % 4"),
+    ("788 count modulo 65,536", M, "(state.count_788 + 1) % 16_384", "state.count_788 + 1"),
+    ("last place not set", M, "after.last = i as u32;", ""),
+    ("last place kept when freed", M, "after.last = i as u32;", "if words != left { after.last = i as u32; }"),
+    ("data always from the start", M, "place_in_image(&state.setup, region, data_address).0", "place_in_image(&state.setup, region, dump.start).0"),
+    ("buffer's rest cleared", M, "put32(buffer, 24, words);", "put32(buffer, 24, words);\n    for b in buffer[length..].iter_mut() { *b = 0; }"),
+    ("dump of 1,016 not freed", M, "after.places[i] = if words == left {", "after.places[i] = if words == left && words != CUT {"),
+    ("slot raises accepted", M, "after.last = i as u32;", "after.last = i as u32;\n    after.accepted = (after.accepted + 1) % 65_536;"),
+    ("writer: 9 before 3", M, "    if buffer.len() < length {\n        return Err(3);\n    }\n", "    if fields.unit > 15 { return Err(9); }\n    if buffer.len() < length {\n        return Err(3);\n    }\n"),
+    ("writer: unused load words kept", M, "if k < *size as usize { data[k] } else { 0 }", "data[k]"),
+    ("writer: later bytes cleared", M, "let packet = &mut buffer[..length];", "buffer[length..].fill(0);\n    let packet = &mut buffer[..length];"),
+    ("writer: sequence 16,384", M, "fields.sequence > PACKET_COUNT_MOST", "fields.sequence > PACKET_COUNT_MOST + 1"),
+    ("writer: size modulo 65,536", M, "*size == 0 || *size > REQUEST_MOST", "*size % 65_536 == 0"),
+    ("packet reader: sequence flags ignored", M, "        || second_header_flag_of(packet) != 0\n        || sequence_flags_of(packet) != 3\n", "        || second_header_flag_of(packet) != 0\n"),
+    ("packet reader: 1,017 words as 9", M, "fields.data_words > CUT || packet", "fields.data_words > CUT + 1 || packet"),
+    ("packet reader: end past 2^32", M, "words <= REQUEST_MOST && end_of(start, words) <= MEMORY_END", "words <= REQUEST_MOST"),
+    ("packet reader: end 2^32 refused", M, "words <= REQUEST_MOST && end_of(start, words) <= MEMORY_END", "words <= REQUEST_MOST && end_of(start, words) < MEMORY_END"),
+    ("packet reader: 65,536 words", M, "words <= REQUEST_MOST && end_of", "words <= REQUEST_MOST + 1 && end_of"),
+    ("packet reader: unaligned", M, "aligned(start) && words >= 1", "words >= 1"),
+    ("packet reader: any words in a cut", M, "&& fields.data_words == words {", "&& fields.data_words <= words {"),
+    ("door: rights over 3 unseen", D, "if words[2] > 3 {", "if false {"),
+    ("door: idle place not zero", D, "0 => (words[1..5] == [0; 4]).then_some(DumpPlace::Idle)", "0 => Some(DumpPlace::Idle)"),
+    ("door: reply length left", D, "        *reply_length = 0;\n", ""),
+    ("door: data bytes left", D, "        *data_bytes = 0;\n", ""),
+]
+
+def run(*command, **more):
+    return subprocess.run(command, stdout=subprocess.PIPE, stderr=subprocess.STDOUT, text=True, **more)
+
+def one(index):
+    name, file, old, new = MUTANTS[index]
+    folder = os.path.join(WORK, f"m{index:02d}")
+    shutil.rmtree(folder, ignore_errors=True)
+    os.makedirs(folder)
+    for source in (M, D, "answer.rs"):
+        shutil.copy(os.path.join(HERE, "src", source), folder)
+    path = os.path.join(folder, file)
+    text = open(path).read()
+    if old and text.count(old) != 1:
+        return index, name, f"NOT PLANTED: found {text.count(old)} times", False
+    if old:
+        open(path, "w").write(text.replace(old, new))
+    open(os.path.join(folder, "lib.rs"), "w").write("pub mod model;\npub mod door;\npub mod answer;\n")
+    built = run("rustc", "--edition", "2021", "-Copt-level=2", "-Awarnings", "--crate-type", "staticlib", "--crate-name", "capi", "--cfg", 'feature="export"',
+                "-o", os.path.join(folder, "libcapi.a"), os.path.join(folder, "lib.rs"))
+    if built.returncode:
+        return index, name, "NOT BUILT: " + built.stdout[:600], False
+    linked = run("rustc", "--edition", "2021", "-Copt-level=1", "-Awarnings", "--crate-name", "compare", "--cfg", 'feature="door"', "-L", folder, "-l", "static=capi",
+                 "--extern", "second=" + os.path.join(WORK, "libsecond.rlib"), "-o", os.path.join(folder, "compare"), os.path.join(HERE, "src", "main.rs"))
+    if linked.returncode:
+        return index, name, "NOT LINKED: " + linked.stdout[:600], False
+    ran = run(os.path.join(folder, "compare"), "--calls", CALLS)
+    lines = ran.stdout.splitlines()
+    said = next((line for line in lines if line.startswith(("DIFFERENCE", "DEMAND", "WRONG", "FAILED"))), lines[-1] if lines else "")
+    shutil.rmtree(folder, ignore_errors=True)
+    good = (ran.returncode == 0) if not old else (ran.returncode != 0)
+    return index, name, f"exit {ran.returncode}: {said[:150]}", good
+
+def main():
+    os.makedirs(WORK, exist_ok=True)
+    built = run("rustc", "--edition", "2021", "-O", "-Awarnings", "--crate-type", "lib", "--crate-name", "second", "--cfg", 'feature="door"',
+                "-o", os.path.join(WORK, "libsecond.rlib"), os.path.join(HERE, "src", "lib.rs"))
+    if built.returncode:
+        print(built.stdout)
+        sys.exit(2)
+    bad = 0
+    wanted = range(FIRST, min(LAST + 1, len(MUTANTS)))
+    with concurrent.futures.ThreadPoolExecutor(2) as pool:
+        for index, name, said, good in pool.map(one, wanted):
+            bad += not good
+            print(f"{'ok    ' if good else 'MISSED'} {index:02d} {name}: {said}", flush=True)
+    print(f"mutants: {len(wanted)} tried, {bad} not as they should be")
+    sys.exit(1 if bad else 0)
+
+main()

@@ -1,0 +1,1562 @@
+//! Makers of input: tables, states, images, packets; good ones by construction, and each kind of fault put in on purpose. Where a maker knows
+//! which number its input must earn, it says so (`Call::expected`); that is a third opinion, apart from both implementations.
+
+use crate::rng::Rng;
+use second::door::{pack_setup, pack_state, COMMAND_WORDS, PACKET_WORDS, STATE_WORDS, TABLE_WORDS};
+use second::model::{Address, Dump, DumpPlace, Pool, Region, Setup, State, NO_POOL, NO_REGION};
+
+#[derive(Clone, Copy, PartialEq, Eq, Debug)]
+pub enum Kind {
+    StartUp,
+    Command,
+    Slot,
+    WriteCommand,
+    ReadCommand,
+    ReadPacket,
+}
+
+pub const KINDS: [Kind; 6] = [Kind::StartUp, Kind::Command, Kind::Slot, Kind::WriteCommand, Kind::ReadCommand, Kind::ReadPacket];
+
+impl Kind {
+    pub fn name(self) -> &'static str {
+        match self {
+            Kind::StartUp => "start-up",
+            Kind::Command => "command",
+            Kind::Slot => "slot",
+            Kind::WriteCommand => "write command",
+            Kind::ReadCommand => "read command",
+            Kind::ReadPacket => "read packet",
+        }
+    }
+
+    /// The numbers that the call can give.
+    pub fn numbers(self) -> &'static [u32] {
+        match self {
+            Kind::StartUp => &[0, 17],
+            Kind::Command => &[0, 1, 2, 3, 4, 5, 6, 7, 8, 9, 10, 11, 12, 13, 14, 15],
+            Kind::Slot => &[0, 1, 2, 3, 16],
+            Kind::WriteCommand => &[0, 3, 6, 9],
+            Kind::ReadCommand => &[0, 3, 4, 5, 6, 7, 9],
+            Kind::ReadPacket => &[0, 3, 4, 5, 7, 9],
+        }
+    }
+}
+
+/// One call's whole input. Parts that a kind of call does not have are empty.
+#[derive(Clone)]
+pub struct Call {
+    pub kind: Kind,
+    /// The block that the call may write: state, or the readers' fields.
+    pub words: Vec<u32>,
+    /// The block that the call only reads: start-up's table, the writer's command.
+    pub fixed: Vec<u32>,
+    /// The packet that the call reads.
+    pub packet: Vec<u8>,
+    pub image: Vec<u32>,
+    /// Reply buffer, slot buffer, writer's buffer.
+    pub buffer: Vec<u8>,
+    pub tick: u32,
+    /// What the length variable holds before the call.
+    pub length: u32,
+    /// The number that the maker knows the call must earn.
+    pub expected: Option<u32>,
+}
+
+impl Call {
+    pub fn new(kind: Kind, rng: &mut Rng) -> Call {
+        Call {
+            kind,
+            words: vec![],
+            fixed: vec![],
+            packet: vec![],
+            image: vec![],
+            buffer: vec![],
+            tick: 0,
+            length: rng.word(),
+            expected: None,
+        }
+    }
+}
+
+// ------------------------------------------------------------------------------------------------------------------------------------
+// Tables and states
+// ------------------------------------------------------------------------------------------------------------------------------------
+
+const MEMORY_WORDS: u64 = 1 << 30;
+
+#[derive(Clone, Copy, PartialEq)]
+pub enum Scale {
+    /// Regions of 1 to 40 words, now and then one of up to 4,000.
+    Small,
+    /// One region of 65,530 to 67,000 words among them.
+    Large,
+    /// One region of 1,048,576 words among them.
+    Huge,
+}
+
+pub fn scale(rng: &mut Rng) -> Scale {
+    match rng.below(1_000) {
+        0 | 1 => Scale::Huge,
+        2..=51 => Scale::Large,
+        _ => Scale::Small,
+    }
+}
+
+/// A table that keeps the rules: 1 to 16 regions, at 0 or ending at 2^32 or between, touching or with gaps, random rights.
+pub fn good_table(rng: &mut Rng, scale: Scale) -> Vec<Region> {
+    let n = match rng.below(5) {
+        0 => 1,
+        1 => 16,
+        _ => rng.between(1, 16),
+    } as usize;
+    let mut sizes: Vec<u64> = (0..n).map(|_| if rng.one_in(4) { rng.between(1, 3) } else { rng.between(1, 40) }).collect();
+    let big = rng.below(n as u64) as usize;
+    match scale {
+        Scale::Small => {
+            if rng.one_in(3) {
+                sizes[big] = rng.between(1_000, 4_000);
+            }
+        }
+        Scale::Large => sizes[big] = rng.pick(&[65_534, 65_535, 65_536, 65_537, 67_000]),
+        Scale::Huge => sizes[big] = 1_048_576,
+    }
+    // Gaps before each region, in words; the first one is the way from 0.
+    let mut gaps: Vec<u64> = (0..n).map(|_| if rng.one_in(2) { 0 } else { rng.between(1, 50) }).collect();
+    gaps[0] = 0;
+    let taken: u64 = sizes.iter().sum::<u64>() + gaps.iter().sum::<u64>();
+    let mut free = MEMORY_WORDS - taken;
+    match rng.below(5) {
+        0 => {}                             // begins at 0
+        1 => gaps[0] = free,                // ends at 2^32
+        2 => {
+            // begins at 0 and ends at 2^32, or all the way from one gap
+            let wide = rng.below(n as u64) as usize;
+            gaps[wide] += free;
+        }
+        3 => {
+            // wide gaps all over
+            for gap in gaps.iter_mut() {
+                let more = rng.below(free + 1) / rng.between(1, 4);
+                *gap += more;
+                free -= more;
+            }
+        }
+        _ => gaps[0] = rng.below(free + 1),
+    }
+    let mut at = 0;
+    let mut table = vec![];
+    for i in 0..n {
+        at += gaps[i];
+        let rights = if rng.one_in(2) { 3 } else { rng.below(4) };
+        table.push(Region { start: Address((4 * at) as u32), size: sizes[i] as u32, load: rights % 2 == 1, dump: rights / 2 == 1 });
+        at += sizes[i];
+    }
+    table
+}
+
+fn setup_of(rng: &mut Rng, table: &[Region], dirty: bool) -> Setup {
+    let mut regions = [NO_REGION; 16];
+    if dirty {
+        for region in regions.iter_mut() {
+            *region = Region { start: Address(rng.word()), size: rng.word(), load: rng.one_in(2), dump: rng.one_in(2) };
+        }
+    }
+    regions[..table.len()].copy_from_slice(table);
+    Setup { region_count: table.len() as u32, regions, pools: [NO_POOL; 2], unit: rng.below(16) as u32 }
+}
+
+pub fn with_dump_right(setup: &Setup) -> Vec<usize> {
+    (0..setup.region_count as usize).filter(|&i| setup.regions[i].dump).collect()
+}
+
+/// A word of a region, and how many words there are from it to the region's end.
+fn inside(rng: &mut Rng, region: &Region) -> (Address, u32) {
+    let k = match rng.below(4) {
+        0 => 0,
+        1 => region.size - 1,
+        _ => rng.below(u64::from(region.size)) as u32,
+    };
+    (Address(region.start.0 + 4 * k), region.size - k)
+}
+
+/// A pool whole in region `i`.
+fn pool_in(rng: &mut Rng, setup: &Setup, i: usize) -> Pool {
+    let region = setup.regions[i];
+    if rng.one_in(3) {
+        return Pool { start: region.start, size: region.size };
+    }
+    let (start, rest) = inside(rng, &region);
+    Pool { start, size: if rng.one_in(3) { rest } else { rng.between(1, u64::from(rest)) as u32 } }
+}
+
+pub fn good_setup(rng: &mut Rng, scale: Scale) -> Setup {
+    let table = good_table(rng, scale);
+    let dirty = rng.one_in(2);
+    let mut setup = setup_of(rng, &table, dirty);
+    let able = with_dump_right(&setup);
+    for p in 0..2 {
+        if !able.is_empty() && !rng.one_in(3) {
+            let i = rng.pick(&able);
+            setup.pools[p] = pool_in(rng, &setup, i);
+        }
+    }
+    setup
+}
+
+/// A good busy dump in region `i`, which has dump right. The caller sees to the transaction number.
+fn dump_in(rng: &mut Rng, region: &Region, transaction: u32) -> Dump {
+    let (start, rest) = inside(rng, region);
+    let most = u64::from(rest.min(65_535));
+    let requested = match rng.below(5) {
+        0 => most,
+        1 => 1_016.min(most),
+        2 => 1_017.min(most),
+        _ => rng.between(1, most),
+    };
+    let cuts = requested.div_ceil(1_016);
+    let sent = if rng.one_in(3) { 1_016 * (cuts - 1) } else { 1_016 * rng.below(cuts) };
+    Dump { transaction, start, requested: requested as u32, sent: sent as u32 }
+}
+
+/// A transaction number that no busy dump has.
+pub fn free_transaction(rng: &mut Rng, state: &State) -> u32 {
+    loop {
+        let number = match rng.below(4) {
+            0 => rng.pick(&[0, 1, 4_094, 4_095]),
+            _ => rng.below(4_096) as u32,
+        };
+        if !busy_transactions(state).contains(&number) {
+            return number;
+        }
+    }
+}
+
+pub fn busy_transactions(state: &State) -> Vec<u32> {
+    state.places.iter().filter_map(|place| if let DumpPlace::Busy(dump) = place { Some(dump.transaction) } else { None }).collect()
+}
+
+fn count(rng: &mut Rng, most: u32) -> u32 {
+    match rng.below(4) {
+        0 => most,
+        1 => rng.pick(&[0, 1, most - 1]),
+        _ => rng.below(u64::from(most) + 1) as u32,
+    }
+}
+
+/// A good state: all rules kept, any of the places busy.
+pub fn good_state(rng: &mut Rng, scale: Scale) -> State {
+    let setup = good_setup(rng, scale);
+    let mut state = State {
+        setup,
+        places: [DumpPlace::Idle; 4],
+        last: rng.below(4) as u32,
+        count_785: count(rng, 16_383),
+        count_788: count(rng, 16_383),
+        accepted: count(rng, 65_535),
+        refused: count(rng, 65_535),
+    };
+    let able = with_dump_right(&state.setup);
+    if !able.is_empty() {
+        let how = rng.below(3);
+        for i in 0..4 {
+            if how == 1 || (how == 2 && rng.one_in(2)) {
+                let region = state.setup.regions[rng.pick(&able)];
+                let transaction = free_transaction(rng, &state);
+                state.places[i] = DumpPlace::Busy(dump_in(rng, &region, transaction));
+            }
+        }
+    }
+    state
+}
+
+/// Makes sure that some region has dump right; gives one such.
+fn force_dump_region(rng: &mut Rng, state: &mut State) -> usize {
+    let able = with_dump_right(&state.setup);
+    if able.is_empty() {
+        let i = rng.below(u64::from(state.setup.region_count)) as usize;
+        state.setup.regions[i].dump = true;
+        return i;
+    }
+    rng.pick(&able)
+}
+
+/// Makes sure that some place is busy; gives one such and its dump.
+fn force_busy(rng: &mut Rng, state: &mut State) -> (usize, Dump) {
+    let busy: Vec<usize> = (0..4).filter(|&i| state.places[i] != DumpPlace::Idle).collect();
+    if !busy.is_empty() {
+        let i = rng.pick(&busy);
+        if let DumpPlace::Busy(dump) = state.places[i] {
+            return (i, dump);
+        }
+    }
+    let i = rng.below(4) as usize;
+    let region = state.setup.regions[force_dump_region(rng, state)];
+    let transaction = free_transaction(rng, state);
+    let dump = dump_in(rng, &region, transaction);
+    state.places[i] = DumpPlace::Busy(dump);
+    (i, dump)
+}
+
+fn force_four_busy(rng: &mut Rng, state: &mut State) {
+    for i in 0..4 {
+        if state.places[i] == DumpPlace::Idle {
+            let region = state.setup.regions[force_dump_region(rng, state)];
+            let transaction = free_transaction(rng, state);
+            state.places[i] = DumpPlace::Busy(dump_in(rng, &region, transaction));
+        }
+    }
+}
+
+fn force_idle(rng: &mut Rng, state: &mut State) {
+    if !state.places.contains(&DumpPlace::Idle) {
+        state.places[rng.below(4) as usize] = DumpPlace::Idle;
+    }
+}
+
+fn force_pool(rng: &mut Rng, state: &mut State) -> usize {
+    let p = rng.below(2) as usize;
+    for p in [p, 1 - p] {
+        if state.setup.pools[p].size != 0 {
+            return p;
+        }
+    }
+    let i = force_dump_region(rng, state);
+    state.setup.pools[p] = pool_in(rng, &state.setup, i);
+    p
+}
+
+pub fn sum_of_sizes(setup: &Setup) -> usize {
+    setup.regions[..setup.region_count as usize].iter().map(|region| region.size as usize).sum()
+}
+
+/// Where a region's word is in the image (regions back to back).
+pub fn image_place(setup: &Setup, address: u32) -> Option<usize> {
+    let mut before = 0usize;
+    for region in &setup.regions[..setup.region_count as usize] {
+        let start = u64::from(region.start.0);
+        let end = start + 4 * u64::from(region.size);
+        if (start..end).contains(&u64::from(address)) {
+            return Some(before + ((u64::from(address) - start) / 4) as usize);
+        }
+        before += region.size as usize;
+    }
+    None
+}
+
+/// Breaks one rule of the setup, for certain.
+fn break_setup(rng: &mut Rng, setup: &mut Setup) {
+    let n = setup.region_count as usize;
+    let i = rng.below(n as u64) as usize;
+    match rng.below(13) {
+        0 => setup.region_count = 0,
+        1 => setup.region_count = rng.pick(&[17, 18, 255, 256, 65_536, 65_552, 0x8000_0001, u32::MAX]),
+        2 => setup.regions[i].start.0 |= rng.between(1, 3) as u32,
+        3 => setup.regions[i].size = 0,
+        4 => {
+            // Too large, with room made for it so that only its size is wrong.
+            setup.region_count = 1;
+            let size = rng.pick(&[1_048_577, 1_048_578, 2_000_000]);
+            setup.regions[0] = Region { start: Address(rng.pick(&[0, 4, 0x1000])), size, load: true, dump: true };
+            setup.pools = [NO_POOL; 2];
+        }
+        5 => {
+            // The last region ends one word past 2^32.
+            let region = &mut setup.regions[n - 1];
+            if region.size == 1 {
+                region.size = 2;
+            }
+            region.start.0 = ((1u64 << 32) + 4 - 4 * u64::from(region.size)) as u32;
+        }
+        6 if n >= 2 => {
+            // A region begins one word before the end of the one before it.
+            let i = rng.between(1, n as u64 - 1) as usize;
+            let before = setup.regions[i - 1];
+            setup.regions[i].start.0 = (u64::from(before.start.0) + 4 * u64::from(before.size) - 4) as u32;
+        }
+        7 if n >= 2 => {
+            let i = rng.between(1, n as u64 - 1) as usize;
+            setup.regions.swap(i - 1, i);
+        }
+        8 => setup.pools[rng.below(2) as usize] = Pool { start: Address(rng.pick(&[1, 4, setup.regions[i].start.0 | 4, u32::MAX])), size: 0 },
+        9 => {
+            let p = rng.below(2) as usize;
+            if setup.pools[p].size == 0 {
+                setup.pools[p] = Pool { start: setup.regions[i].start, size: 1 };
+            }
+            setup.pools[p].start.0 |= rng.between(1, 3) as u32;
+        }
+        10 => {
+            // A pool one word past its region's end: into a gap or into the next region.
+            let region = setup.regions[i];
+            let k = rng.below(u64::from(region.size)) as u32;
+            let start = Address(region.start.0 + 4 * k);
+            let size = region.size - k + rng.pick(&[1, 1, 1, 0x4000_0000, 0x4000_0000 - 1]);
+            // All of region `i` made dumpable, so that the edge alone is wrong.
+            setup.regions[i].dump = true;
+            if i + 1 < n {
+                setup.regions[i + 1].dump = true;
+            }
+            setup.pools[rng.below(2) as usize] = Pool { start, size };
+        }
+        11 => {
+            setup.regions[i].dump = false;
+            setup.pools[rng.below(2) as usize] = pool_in(rng, setup, i);
+        }
+        _ => setup.unit = rng.pick(&[16, 17, 31, 128, 255]),
+    }
+}
+
+/// Breaks one rule of a good state, for certain; gives the block.
+pub fn break_state(rng: &mut Rng, state: &State) -> Vec<u32> {
+    let mut state = state.clone();
+    match rng.below(24) {
+        0..=7 => break_setup(rng, &mut state.setup),
+        8 => state.last = rng.pick(&[4, 5, 7, 128, 255, 256, 259, u32::MAX]),
+        9 => state.count_785 = rng.pick(&[16_384, 16_385, 32_768, 65_535, 65_536, u32::MAX]),
+        10 => state.count_788 = rng.pick(&[16_384, 16_385, 32_768, 65_535, 65_536, u32::MAX]),
+        11 => state.accepted = rng.pick(&[65_536, 65_537, 0x8000_0000, u32::MAX]),
+        12 => state.refused = rng.pick(&[65_536, 65_537, 0x8000_0000, u32::MAX]),
+        13 => {
+            let (i, dump) = force_busy(rng, &mut state);
+            let transaction = rng.pick(&[4_096, 4_097, 8_191, 65_535, 65_536, 65_536 + 7, u32::MAX]);
+            state.places[i] = DumpPlace::Busy(Dump { transaction, ..dump });
+        }
+        14 => {
+            // Two busy dumps with one number.
+            let (i, dump) = force_busy(rng, &mut state);
+            let k = (i + 1 + rng.below(3) as usize) % 4;
+            state.places[k] = match state.places[k] {
+                DumpPlace::Busy(other) if rng.one_in(2) => DumpPlace::Busy(Dump { transaction: dump.transaction, ..other }),
+                _ => DumpPlace::Busy(dump),
+            };
+        }
+        15 => {
+            let (i, dump) = force_busy(rng, &mut state);
+            state.places[i] = DumpPlace::Busy(Dump { requested: 0, sent: 0, ..dump });
+        }
+        16 => {
+            // Over 65,535 words, in a region that has them: nothing else is wrong.
+            one_wide_region(rng, &mut state, 70_000);
+            let start = state.setup.regions[0].start;
+            let dump = Dump { transaction: 7, start, requested: rng.pick(&[65_536, 65_537, 69_999]), sent: rng.pick(&[0, 1_016, 65_024]) };
+            state.places[rng.below(4) as usize] = DumpPlace::Busy(dump);
+        }
+        17 => {
+            let (i, dump) = force_busy(rng, &mut state);
+            state.places[i] = DumpPlace::Busy(Dump { start: Address(dump.start.0 | rng.between(1, 3) as u32), ..dump });
+        }
+        18 => {
+            // One word past the region's end, or one before its start.
+            let (i, _) = force_busy(rng, &mut state);
+            let r = rng.below(u64::from(state.setup.region_count)) as usize;
+            let region = state.setup.regions[r];
+            state.setup.regions[r].dump = true;
+            let transaction = match state.places[i] {
+                DumpPlace::Busy(dump) => dump.transaction,
+                DumpPlace::Idle => 0,
+            };
+            let k = rng.below(u64::from(region.size)).max(u64::from(region.size).saturating_sub(3_000)) as u32;
+            let start = Address(region.start.0 + 4 * k);
+            state.places[i] = DumpPlace::Busy(Dump { transaction, start, requested: region.size - k + 1, sent: 0 });
+        }
+        19 => {
+            // Its region loses the dump right.
+            let (_, dump) = force_busy(rng, &mut state);
+            let n = state.setup.region_count as usize;
+            for region in state.setup.regions[..n].iter_mut() {
+                if u64::from(dump.start.0) >= u64::from(region.start.0)
+                    && u64::from(dump.start.0) < u64::from(region.start.0) + 4 * u64::from(region.size)
+                {
+                    region.dump = false;
+                }
+            }
+        }
+        20 => {
+            let (i, dump) = force_busy(rng, &mut state);
+            let sent = dump.sent + rng.pick(&[1, 2, 4, 508, 1_015]);
+            state.places[i] = DumpPlace::Busy(Dump { sent, ..dump });
+        }
+        21 => {
+            // All sent, or more.
+            if rng.one_in(2) {
+                one_wide_region(rng, &mut state, 5_000);
+                let start = state.setup.regions[0].start;
+                let requested = rng.pick(&[1_016, 2_032, 1_017, 1]);
+                let dump = Dump { transaction: 7, start, requested, sent: 1_016 * requested.div_ceil(1_016) };
+                state.places[rng.below(4) as usize] = DumpPlace::Busy(dump);
+            } else {
+                let (i, dump) = force_busy(rng, &mut state);
+                let sent = 1_016 * (dump.requested.div_ceil(1_016) + rng.pick(&[0, 0, 0, 1, 64]));
+                state.places[i] = DumpPlace::Busy(Dump { sent, ..dump });
+            }
+        }
+        22 => {
+            // Words that the block cannot hold.
+            let mut block = pack_state(&state).to_vec();
+            match rng.below(3) {
+                0 => block[3 + 3 * rng.below(16) as usize] = rng.pick(&[4, 5, 7, 255, 256, u32::MAX]),
+                1 => block[54 + 5 * rng.below(4) as usize] = rng.pick(&[2, 3, 255, 256, 257, u32::MAX]),
+                _ => {
+                    let i = rng.below(4) as usize;
+                    let k = rng.between(1, 4) as usize;
+                    block[54 + 5 * i..59 + 5 * i].fill(0);
+                    block[54 + 5 * i + k] = rng.pick(&[1, 4, 1_016, 65_536, u32::MAX]);
+                }
+            }
+            return block;
+        }
+        _ => {
+            // Another length.
+            let mut block = pack_state(&state).to_vec();
+            let length = rng.pick(&[0, 1, 54, 77, 78, 80, 81, 158]);
+            let more = rng.words(length);
+            block.extend_from_slice(&more);
+            block.truncate(length);
+            return block;
+        }
+    }
+    if rng.one_in(20) {
+        // The unit as a number that only a wider word can hold.
+        state.setup.unit = rng.pick(&[256, 257, 65_536, u32::MAX]);
+    }
+    pack_state(&state).to_vec()
+}
+
+/// One region with both rights, no pools, all places idle; the rest of the state as it was.
+fn one_wide_region(rng: &mut Rng, state: &mut State, size: u32) {
+    let top = ((1u64 << 32) - 4 * u64::from(size)) as u32;
+    state.setup.region_count = 1;
+    state.setup.regions[0] = Region { start: Address(rng.pick(&[0, 0x1000, top])), size, load: true, dump: true };
+    state.setup.pools = [NO_POOL; 2];
+    state.places = [DumpPlace::Idle; 4];
+}
+
+/// A state block changed in one word or one bit, or wholly random: good or not, no one knows beforehand.
+fn disturb_block(rng: &mut Rng, block: &mut Vec<u32>) {
+    match rng.below(12) {
+        0 => *block = rng.words(STATE_WORDS),
+        1 => {
+            // Random small words.
+            for word in block.iter_mut() {
+                *word = rng.below(5) as u32;
+            }
+        }
+        2..=5 => {
+            let at = rng.below(block.len() as u64) as usize;
+            block[at] ^= 1 << rng.below(32);
+        }
+        6..=8 => {
+            // The words after the regions more often, since fewer of them are idle padding.
+            let at = rng.between(49, 78) as usize;
+            block[at] ^= 1 << rng.below(17);
+        }
+        9 => {
+            let at = rng.below(block.len() as u64) as usize;
+            block[at] = rng.pick(&[0, 1, 2, 3, 4, 15, 16, 255, 256, 1_016, 4_095, 4_096, 16_383, 16_384, 65_535, 65_536, u32::MAX]);
+        }
+        _ => {
+            let at = rng.below(block.len() as u64) as usize;
+            block[at] = block[at].wrapping_add(rng.pick(&[1, 4, u32::MAX, u32::MAX - 3]));
+        }
+    }
+}
+
+// ------------------------------------------------------------------------------------------------------------------------------------
+// Images and pools
+// ------------------------------------------------------------------------------------------------------------------------------------
+
+/// Whole blocks over a pool: sizes random, used or free, the rest of each block random.
+pub fn fill_blocks(rng: &mut Rng, pool: &mut [u32]) -> Vec<usize> {
+    let mut heads = vec![];
+    let mut at = 0;
+    let most = rng.pick(&[1, 3, 8, 50, 5_000, 2_000_000]);
+    while at < pool.len() {
+        let rest = (pool.len() - at) as u64;
+        let size = rng.between(1, rest.min(most)) as usize;
+        for word in &mut pool[at..at + size] {
+            *word = rng.word();
+        }
+        pool[at] = size as u32 | if rng.one_in(2) { 0x8000_0000 } else { 0 };
+        heads.push(at);
+        at += size;
+    }
+    heads
+}
+
+/// Damage for certain, in blocks that were whole.
+pub fn break_blocks(rng: &mut Rng, pool: &mut [u32], heads: &[usize]) {
+    let last = heads[heads.len() - 1];
+    let used = rng.word() & 0x8000_0000;
+    match rng.below(5) {
+        0 => pool[rng.pick(heads)] = used,                                             // size 0
+        1 => pool[last] += 1,                                                          // one past the end
+        2 => pool[rng.pick(heads)] = used | rng.pick(&[0x7FFF_FFFF, 0x7FFF_FFFE, 0x4000_0000, 0x2000_0000]), // far past the end
+        3 => {
+            // One short: the last word is left, and is no block of one word.
+            pool[last] -= 1;
+            let end = pool.len() - 1;
+            if end != last {
+                pool[end] = rng.pick(&[0, 0x8000_0000, 2, 0x8000_0002, 0xFFFF_FFFF]);
+            }
+        }
+        _ => {
+            let at = rng.pick(heads);
+            pool[at] = used | (pool.len() - at + 1) as u32; // from any block to one past the end
+        }
+    }
+}
+
+fn pool_range(setup: &Setup, p: usize) -> Option<std::ops::Range<usize>> {
+    let pool = setup.pools[p];
+    if pool.size == 0 {
+        return None;
+    }
+    let first = image_place(setup, pool.start.0)?;
+    Some(first..first + pool.size as usize)
+}
+
+/// An image of the right length, with blocks in the pools (whole or damaged), those of pool `last` written last and as `whole` says.
+fn image_for(rng: &mut Rng, setup: &Setup, last: usize, whole: Option<bool>) -> Vec<u32> {
+    let mut image = rng.words(sum_of_sizes(setup));
+    for p in [1 - last, last] {
+        if let Some(range) = pool_range(setup, p) {
+            let heads = fill_blocks(rng, &mut image[range.clone()]);
+            let keep = if p == last { whole } else { None };
+            if !keep.unwrap_or_else(|| !rng.one_in(3)) {
+                break_blocks(rng, &mut image[range], &heads);
+            }
+        }
+    }
+    image
+}
+
+/// An image of another length.
+fn wrong_length(rng: &mut Rng, image: &mut Vec<u32>) {
+    let n = image.len();
+    let to = match rng.below(6) {
+        0 => 0,
+        1 => n + 1,
+        2 => n - 1,
+        3 => 2 * n,
+        4 => n + rng.between(1, 40) as usize,
+        _ => rng.below(n as u64) as usize,
+    };
+    let more = rng.words(to.saturating_sub(n));
+    image.extend_from_slice(&more);
+    image.truncate(to);
+}
+
+// ------------------------------------------------------------------------------------------------------------------------------------
+// Packets
+// ------------------------------------------------------------------------------------------------------------------------------------
+
+/// Puts the right length field (its low 16 bits) into a packet.
+pub fn mend_length(packet: &mut [u8]) {
+    if packet.len() >= 6 {
+        let field = packet.len().wrapping_sub(7) as u16;
+        packet[4..6].copy_from_slice(&field.to_be_bytes());
+    }
+}
+
+/// Makes the exclusive or of all bytes FF by the byte at 7.
+pub fn mend_check(packet: &mut [u8]) {
+    if packet.len() >= 8 {
+        let sum = packet.iter().fold(0, |sum, byte| sum ^ byte);
+        packet[7] ^= sum ^ 0xFF;
+    }
+}
+
+/// A command packet from its parts, with right header, length field and check byte.
+pub fn raw_command(sequence: u32, code: u8, unit: u32, transaction: u32, body: &[u8]) -> Vec<u8> {
+    let mut packet = vec![0x1E, 0x44, 0xC0 | (sequence >> 8) as u8, sequence as u8, 0, 0, code, 0];
+    packet.extend_from_slice(&((unit << 12 | transaction) as u16).to_be_bytes());
+    packet.extend_from_slice(body);
+    mend_length(&mut packet);
+    mend_check(&mut packet);
+    packet
+}
+
+fn body_of_range(size: u32, address: u32) -> Vec<u8> {
+    let mut body = (size as u16).to_be_bytes().to_vec();
+    body.extend_from_slice(&address.to_be_bytes());
+    body
+}
+
+pub fn dump_command(rng: &mut Rng, unit: u32, transaction: u32, size: u32, address: u32) -> Vec<u8> {
+    let sequence = count(rng, 16_383);
+    raw_command(sequence, 0, unit, transaction, &body_of_range(size, address))
+}
+
+pub fn cancel_command(rng: &mut Rng, unit: u32, transaction: u32) -> Vec<u8> {
+    let sequence = count(rng, 16_383);
+    raw_command(sequence, 1, unit, transaction, &[])
+}
+
+pub fn load_command(rng: &mut Rng, unit: u32, transaction: u32, size: u32, address: u32) -> Vec<u8> {
+    let mut body = body_of_range(size, address);
+    let mut data = rng.bytes(44);
+    if rng.one_in(2) {
+        // Unused words 0, as the writer makes them.
+        let used = (4 * size as usize).min(44);
+        data[used..].fill(0);
+    }
+    body.extend_from_slice(&data);
+    let sequence = count(rng, 16_383);
+    raw_command(sequence, 4, unit, transaction, &body)
+}
+
+pub fn pool_command(rng: &mut Rng, unit: u32, transaction: u32, pool: u32) -> Vec<u8> {
+    let sequence = count(rng, 16_383);
+    raw_command(sequence, 7, unit, transaction, &(pool as u16).to_be_bytes())
+}
+
+const SIZES: [u32; 12] = [0, 1, 2, 10, 11, 12, 1_015, 1_016, 1_017, 2_032, 65_534, 65_535];
+
+/// An address: at region edges, inside, outside, aligned or not, at the ends of memory.
+fn some_address(rng: &mut Rng, setup: &Setup) -> u32 {
+    let i = rng.below(u64::from(setup.region_count.clamp(1, 16))) as usize;
+    let region = setup.regions[i];
+    let end = u64::from(region.start.0) + 4 * u64::from(region.size);
+    let address = match rng.below(12) {
+        0 | 1 => u64::from(region.start.0),
+        2 => end.wrapping_sub(4),
+        3 => end,
+        4 => u64::from(region.start.0).wrapping_sub(4),
+        5 => end.wrapping_sub(4 * rng.between(1, 12)),
+        6 => end.wrapping_sub(4 * rng.between(1, 1_100)),
+        7 => rng.pick(&[0u64, 4, 0xFFFF_FFFC, 0xFFFF_FFF8, 0x8000_0000]),
+        8 => u64::from(rng.word()),
+        _ => u64::from(region.start.0) + 4 * rng.below(u64::from(region.size.max(1))),
+    } as u32;
+    if rng.one_in(8) {
+        address ^ rng.between(1, 3) as u32
+    } else {
+        address
+    }
+}
+
+/// A size for an address: the fixed ones, and those that end at a region's edge or one word past it.
+fn some_size(rng: &mut Rng, setup: &Setup, address: u32) -> u32 {
+    let region = setup.regions[..setup.region_count.min(16) as usize]
+        .iter()
+        .find(|region| address >= region.start.0 && u64::from(address) < u64::from(region.start.0) + 4 * u64::from(region.size));
+    let rest = match region {
+        Some(region) => ((u64::from(region.start.0) + 4 * u64::from(region.size) - u64::from(address)) / 4) as u32,
+        None => 1,
+    };
+    match rng.below(6) {
+        0 => rng.pick(&SIZES),
+        1 => rest.min(65_535),
+        2 => (rest + 1).min(65_535),
+        3 => rng.between(1, 11) as u32,
+        4 => rng.between(1, u64::from(rest.clamp(1, 65_535))) as u32,
+        _ => rest.saturating_sub(1).min(65_535),
+    }
+}
+
+/// A command packet for a state, of random fields; its header is right.
+pub fn some_command(rng: &mut Rng, state: &State) -> Vec<u8> {
+    let unit = if rng.one_in(12) { rng.below(16) as u32 } else { state.setup.unit & 15 };
+    let busy = busy_transactions(state);
+    let transaction = if !busy.is_empty() && rng.one_in(3) { rng.pick(&busy) & 4_095 } else { free_transaction(rng, state) };
+    let address = some_address(rng, &state.setup);
+    let size = some_size(rng, &state.setup, address);
+    match rng.below(9) {
+        0..=2 => dump_command(rng, unit, transaction, size, address),
+        3 | 4 => cancel_command(rng, unit, transaction),
+        5 | 6 => {
+            let size = if rng.one_in(2) { size } else { rng.between(1, 11) as u32 };
+            load_command(rng, unit, transaction, size, address)
+        }
+        _ => {
+            let pool = if rng.one_in(6) { rng.pick(&[2, 3, 255, 256, 257, 32_768, 65_535]) } else { rng.below(2) as u32 };
+            pool_command(rng, unit, transaction, pool)
+        }
+    }
+}
+
+/// Damage to any packet: a bit, a byte, cut, lengthened, replaced; check byte and length field mended or not.
+pub fn damage_packet(rng: &mut Rng, packet: &mut Vec<u8>, has_check: bool) {
+    let early = packet.len().min(28) as u64;
+    match rng.below(10) {
+        0 | 1 if !packet.is_empty() => {
+            let at = rng.below(packet.len() as u64) as usize;
+            packet[at] ^= 1 << rng.below(8);
+        }
+        2 | 3 if !packet.is_empty() => {
+            let at = rng.below(early) as usize;
+            packet[at] ^= 1 << rng.below(8);
+        }
+        4 if !packet.is_empty() => {
+            let at = rng.below(early) as usize;
+            packet[at] = rng.word() as u8;
+        }
+        5 if !packet.is_empty() => {
+            let to = rng.below(packet.len() as u64) as usize;
+            packet.truncate(to);
+        }
+        6 if !packet.is_empty() => {
+            packet.pop();
+        }
+        7 => {
+            let n = if rng.one_in(100) { rng.pick(&[65_536, 65_542 - packet.len().min(65_542), 65_543]) } else { rng.between(1, 60) as usize };
+            let more = if rng.one_in(2) { vec![0; n] } else { rng.bytes(n) };
+            packet.extend_from_slice(&more);
+        }
+        8 => {
+            let n = rng.below(80) as usize;
+            *packet = rng.bytes(n);
+        }
+        _ => {
+            // Random bytes behind a right beginning.
+            let n = rng.below(80) as usize;
+            let start = packet[..packet.len().min(7)].to_vec();
+            *packet = rng.bytes(n);
+            for (byte, right) in packet.iter_mut().zip(start) {
+                *byte = right;
+            }
+        }
+    }
+    let mend = rng.below(4);
+    if mend >= 2 {
+        mend_length(packet);
+    }
+    if has_check && mend % 2 == 1 {
+        mend_check(packet);
+    }
+}
+
+/// Puts a fault of number 4, for certain, into a command packet.
+fn break_command_header(rng: &mut Rng, packet: &mut Vec<u8>) {
+    match rng.below(9) {
+        0 => {
+            let to = rng.below(8) as usize;
+            packet.truncate(to);
+            if rng.one_in(2) {
+                mend_length(packet);
+            }
+        }
+        1 => {
+            packet[0] ^= (rng.between(1, 7) << 5) as u8; // version
+            mend_check(packet);
+        }
+        2 => {
+            packet[0] ^= 0x10; // type
+            mend_check(packet);
+        }
+        3 => {
+            packet[0] ^= 0x08; // second-header flag
+            mend_check(packet);
+        }
+        4 => {
+            packet[2] ^= (rng.between(1, 3) << 6) as u8; // sequence flags
+            mend_check(packet);
+        }
+        5 => {
+            // Length field: one off, or any other.
+            let right = u16::from_be_bytes([packet[4], packet[5]]);
+            let wrong = right.wrapping_add(rng.pick(&[1, 7, 256, 65_535, 65_529, 32_768]));
+            packet[4..6].copy_from_slice(&wrong.to_be_bytes());
+            mend_check(packet);
+        }
+        6 => {
+            packet[6] ^= 0x80; // zero bit
+            mend_check(packet);
+        }
+        7 => {
+            let at = rng.below(packet.len() as u64) as usize;
+            packet[if rng.one_in(2) { 7 } else { at.max(7) }] ^= 1 << rng.below(8); // check byte
+        }
+        _ => {
+            if rng.one_in(8) {
+                // 65,536 bytes more: the length field is right modulo 65,536 only.
+                let more = rng.bytes(65_536);
+                packet.extend_from_slice(&more);
+            } else {
+                let n = rng.between(1, 9) as usize;
+                let more = vec![0; n];
+                packet.extend_from_slice(&more); // bytes that the length field does not count
+            }
+            mend_check(packet);
+        }
+    }
+}
+
+/// Another APID, with the check byte mended.
+fn break_apid(rng: &mut Rng, packet: &mut [u8], own: u16, has_check: bool) {
+    let other = loop {
+        let other = match rng.below(3) {
+            0 => own ^ (1 << rng.below(11)),
+            1 => rng.pick(&[0, 785, 788, 1604, 1605, 2_047]),
+            _ => rng.below(2_048) as u16,
+        };
+        if other != own {
+            break other;
+        }
+    };
+    packet[0] = packet[0] & 0xF8 | (other >> 8) as u8;
+    packet[1] = other as u8;
+    if has_check {
+        mend_check(packet);
+    }
+}
+
+fn other_code(rng: &mut Rng) -> u8 {
+    loop {
+        let code = if rng.one_in(2) { rng.below(12) as u8 } else { rng.below(128) as u8 };
+        if ![0, 1, 4, 7].contains(&code) {
+            return code;
+        }
+    }
+}
+
+/// A length that is wrong for the packet's code, everything else mended.
+fn break_packet_length(rng: &mut Rng, packet: &mut Vec<u8>) {
+    let right = packet.len();
+    let to = loop {
+        let to = match rng.below(6) {
+            0 => right - 1,
+            1 => right + 1,
+            2 => rng.pick(&[8, 9, 10, 12, 16, 60]),
+            3 if rng.one_in(40) => rng.pick(&[65_542, 65_541, 256 + right]),
+            _ => rng.between(8, 80) as usize,
+        };
+        if to != right && to >= 8 {
+            break to;
+        }
+    };
+    let more = if rng.one_in(2) { vec![0; to.saturating_sub(right)] } else { rng.bytes(to.saturating_sub(right)) };
+    packet.extend_from_slice(&more);
+    packet.truncate(to);
+    mend_length(packet);
+    mend_check(packet);
+}
+
+// ------------------------------------------------------------------------------------------------------------------------------------
+// Start-up calls
+// ------------------------------------------------------------------------------------------------------------------------------------
+
+pub fn start_up_call(rng: &mut Rng, turn: u64) -> Call {
+    let mut call = Call::new(Kind::StartUp, rng);
+    call.words = rng.words(STATE_WORDS);
+    let scale = rng.pick(&[Scale::Small, Scale::Large, Scale::Huge]);
+    let mut setup = good_setup(rng, scale);
+    match turn % 8 {
+        0..=2 => {
+            call.fixed = pack_setup(&setup).to_vec();
+            call.expected = Some(0);
+        }
+        3 | 4 => {
+            break_setup(rng, &mut setup);
+            call.fixed = pack_setup(&setup).to_vec();
+            call.expected = Some(17);
+        }
+        5 => {
+            // Words out of their bounds in the block.
+            call.fixed = pack_setup(&setup).to_vec();
+            match rng.below(2) {
+                0 => call.fixed[8 + 3 * rng.below(16) as usize] = rng.pick(&[4, 5, 255, 256, u32::MAX]),
+                _ => call.fixed[0] = rng.pick(&[256, 257, 65_536, u32::MAX]),
+            }
+            call.expected = Some(17);
+        }
+        6 => {
+            // Another length of one block or both.
+            call.fixed = pack_setup(&setup).to_vec();
+            let which = rng.below(3);
+            if which != 1 {
+                let n = rng.pick(&[0, 1, 53, 55, 79]);
+                let more = rng.words(n);
+                call.fixed.extend_from_slice(&more);
+                call.fixed.truncate(n);
+            }
+            if which != 0 {
+                let n = rng.pick(&[0, 1, 54, 78, 80]);
+                call.words = rng.words(n);
+            }
+            call.expected = Some(17);
+        }
+        _ => {
+            call.fixed = pack_setup(&setup).to_vec();
+            match rng.below(4) {
+                0 => call.fixed = rng.words(TABLE_WORDS),
+                1 => {
+                    let at = rng.below(54) as usize;
+                    call.fixed[at] = rng.pick(&[0, 1, 2, 3, 4, 15, 16, 255, 256, 0xFFFF_FFFC, u32::MAX]);
+                }
+                _ => {
+                    let at = rng.below(54) as usize;
+                    call.fixed[at] ^= 1 << rng.below(32);
+                }
+            }
+        }
+    }
+    call
+}
+
+// ------------------------------------------------------------------------------------------------------------------------------------
+// Command calls
+// ------------------------------------------------------------------------------------------------------------------------------------
+
+/// A command that earns `aim` (0 or 9 to 15) by its fields and the state, which is changed to suit; and the image.
+fn aimed_body(rng: &mut Rng, state: &mut State, aim: u32) -> (Vec<u8>, Vec<u32>) {
+    let unit = state.setup.unit;
+    let n = state.setup.region_count as usize;
+    let mut pool_wanted = (rng.below(2) as usize, None);
+    let packet = match aim {
+        0 => match rng.below(4) {
+            0 => {
+                force_idle(rng, state);
+                let region = state.setup.regions[force_dump_region(rng, state)];
+                let transaction = free_transaction(rng, state);
+                let dump = dump_in(rng, &region, transaction);
+                dump_command(rng, unit, transaction, dump.requested, dump.start.0)
+            }
+            1 => {
+                let (_, dump) = force_busy(rng, state);
+                cancel_command(rng, unit, dump.transaction)
+            }
+            2 => {
+                let i = rng.below(n as u64) as usize;
+                state.setup.regions[i].load = true;
+                let (start, rest) = inside(rng, &state.setup.regions[i]);
+                let most = rest.min(11);
+                let size = if rng.one_in(2) { most } else { rng.between(1, u64::from(most)) as u32 };
+                let start = if rng.one_in(4) { Address(state.setup.regions[i].start.0 + 4 * (state.setup.regions[i].size - size)) } else { start };
+                let transaction = rng.below(4_096) as u32;
+                load_command(rng, unit, transaction, size, start.0)
+            }
+            _ => {
+                let p = force_pool(rng, state);
+                pool_wanted = (p, Some(true));
+                let transaction = rng.below(4_096) as u32;
+                pool_command(rng, unit, transaction, p as u32)
+            }
+        },
+        9 => {
+            let transaction = rng.below(4_096) as u32;
+            let address = some_address(rng, &state.setup);
+            let size = some_size(rng, &state.setup, address);
+            let odd = address | rng.between(1, 3) as u32;
+            match rng.below(5) {
+                0 => dump_command(rng, unit, transaction, size, odd),
+                1 => dump_command(rng, unit, transaction, 0, address),
+                2 => load_command(rng, unit, transaction, size, odd),
+                3 => load_command(rng, unit, transaction, wrong_load_size(size), address),
+                _ => {
+                    let pool = rng.pick(&[2, 3, 255, 256, 257, 32_768, 65_535]);
+                    pool_command(rng, unit, transaction, pool)
+                }
+            }
+        }
+        10 => {
+            let transaction = rng.below(4_096) as u32;
+            if rng.one_in(5) {
+                let p = rng.below(2) as usize;
+                state.setup.pools[p] = NO_POOL;
+                pool_command(rng, unit, transaction, p as u32)
+            } else {
+                // A range over an edge of a region: past its end, before its start, or wholly outside.
+                let i = rng.below(n as u64) as usize;
+                let region = state.setup.regions[i];
+                let end = u64::from(region.start.0) + 4 * u64::from(region.size);
+                let load = rng.one_in(2);
+                let most: u64 = if load { 11 } else { 1_017 };
+                let (address, size) = match rng.below(4) {
+                    0 | 1 => {
+                        // 1 to `most` minus 1 words inside, and one or more past.
+                        let within = rng.between(1, (most - 1).min(u64::from(region.size)));
+                        let size = if rng.one_in(2) { within + 1 } else { rng.between(within + 1, most) };
+                        (end - 4 * within, size)
+                    }
+                    2 if region.start.0 != 0 => (u64::from(region.start.0) - 4, rng.between(2, most)),
+                    _ => {
+                        // An address in no region, if one is found.
+                        let mut found = None;
+                        for _ in 0..20 {
+                            let address = some_address(rng, &state.setup) & !3;
+                            if image_place(&state.setup, address).is_none() {
+                                found = Some(u64::from(address));
+                            }
+                        }
+                        match found {
+                            Some(address) => (address, rng.between(1, most)),
+                            None => (end - 4, 2),
+                        }
+                    }
+                };
+                if load {
+                    load_command(rng, unit, transaction, size as u32, address as u32)
+                } else {
+                    dump_command(rng, unit, transaction, size as u32, address as u32)
+                }
+            }
+        }
+        11 => {
+            let i = rng.below(n as u64) as usize;
+            let transaction = rng.below(4_096) as u32;
+            let (start, rest) = inside(rng, &state.setup.regions[i]);
+            if rng.one_in(2) {
+                state.setup.regions[i].load = false;
+                let size = rng.between(1, u64::from(rest.min(11))) as u32;
+                load_command(rng, unit, transaction, size, start.0)
+            } else {
+                // The region loses the dump right, and what needed it goes.
+                state.setup.regions[i].dump = false;
+                for p in 0..2 {
+                    if !pool_still_good(&state.setup, p) {
+                        state.setup.pools[p] = NO_POOL;
+                    }
+                }
+                for k in 0..4 {
+                    if let DumpPlace::Busy(dump) = state.places[k] {
+                        if !dumpable(&state.setup, dump.start.0) {
+                            state.places[k] = DumpPlace::Idle;
+                        }
+                    }
+                }
+                let size = rng.between(1, u64::from(rest.min(65_535))) as u32;
+                dump_command(rng, unit, transaction, size, start.0)
+            }
+        }
+        12 | 13 => {
+            if aim == 13 || rng.one_in(2) {
+                force_four_busy(rng, state);
+            }
+            let (_, busy) = force_busy(rng, state);
+            let region = state.setup.regions[force_dump_region(rng, state)];
+            let transaction = if aim == 12 { busy.transaction } else { free_transaction(rng, state) };
+            let dump = dump_in(rng, &region, transaction);
+            dump_command(rng, unit, transaction, dump.requested, dump.start.0)
+        }
+        14 => {
+            let transaction = free_transaction(rng, state);
+            cancel_command(rng, unit, transaction)
+        }
+        _ => {
+            let p = force_pool(rng, state);
+            pool_wanted = (p, Some(false));
+            let transaction = rng.below(4_096) as u32;
+            pool_command(rng, unit, transaction, p as u32)
+        }
+    };
+    let image = image_for(rng, &state.setup, pool_wanted.0, pool_wanted.1);
+    (packet, image)
+}
+
+/// 0 or over 11, spread by the given size.
+fn wrong_load_size(size: u32) -> u32 {
+    if size % 2 == 0 {
+        0
+    } else {
+        [12, 13, 16, 27, 255, 256, 257, 267, 32_768, 65_535][size as usize / 2 % 10]
+    }
+}
+
+fn dumpable(setup: &Setup, address: u32) -> bool {
+    setup.regions[..setup.region_count as usize].iter().any(|region| {
+        region.dump && address >= region.start.0 && u64::from(address) < u64::from(region.start.0) + 4 * u64::from(region.size)
+    })
+}
+
+fn pool_still_good(setup: &Setup, p: usize) -> bool {
+    setup.pools[p].size == 0 || dumpable(setup, setup.pools[p].start.0)
+}
+
+fn buffer_length(rng: &mut Rng, need: usize) -> usize {
+    match rng.below(3) {
+        0 => need,
+        1 => need + 1,
+        _ => need + rng.below(70) as usize,
+    }
+}
+
+fn short_length(rng: &mut Rng, need: usize) -> usize {
+    match rng.below(4) {
+        0 | 1 => need - 1,
+        2 => 0,
+        _ => rng.below(need as u64) as usize,
+    }
+}
+
+/// A command call that must earn `aim`: that fault is in it, and some of the faults of higher numbers too.
+pub fn aimed_command(rng: &mut Rng, aim: u32) -> Call {
+    let mut call = Call::new(Kind::Command, rng);
+    let scale = scale(rng);
+    let mut state = good_state(rng, scale);
+    let inner = if aim == 0 || aim >= 9 { aim } else { rng.pick(&[0, 0, 9, 10, 11, 12, 13, 14, 15]) };
+    let (packet, image) = aimed_body(rng, &mut state, inner);
+    call.packet = packet;
+    call.image = image;
+    // Faults above the aim come in addition, one in six each.
+    let mut has = |number: u32| aim == number || (aim != 0 && number > aim && rng.one_in(6));
+    let faults: Vec<u32> = (1..=8).filter(|&number| has(number)).collect();
+    let p = &mut call.packet;
+    if faults.contains(&8) {
+        p[8] ^= (rng.between(1, 15) << 4) as u8;
+        mend_check(p);
+    }
+    if faults.contains(&7) {
+        break_packet_length(rng, p);
+    }
+    if faults.contains(&6) {
+        p[6] = other_code(rng);
+        mend_check(p);
+    }
+    if faults.contains(&5) {
+        break_apid(rng, p, 1604, true);
+    }
+    if faults.contains(&4) {
+        break_command_header(rng, p);
+    }
+    let n = if faults.contains(&3) { short_length(rng, 32) } else { buffer_length(rng, 32) };
+    call.buffer = rng.bytes(n);
+    if faults.contains(&2) {
+        wrong_length(rng, &mut call.image);
+    }
+    call.words = if faults.contains(&1) { break_state(rng, &state) } else { pack_state(&state).to_vec() };
+    call.expected = Some(aim);
+    call
+}
+
+/// A command call of random parts, each damaged or not.
+pub fn free_command(rng: &mut Rng) -> Call {
+    let mut call = Call::new(Kind::Command, rng);
+    let scale = scale(rng);
+    let state = good_state(rng, scale);
+    call.packet = some_command(rng, &state);
+    if rng.one_in(3) {
+        damage_packet(rng, &mut call.packet, true);
+    }
+    let last = rng.below(2) as usize;
+    call.image = image_for(rng, &state.setup, last, None);
+    if rng.one_in(20) {
+        wrong_length(rng, &mut call.image);
+    }
+    let n = if rng.one_in(20) { short_length(rng, 32) } else { buffer_length(rng, 32) };
+    call.buffer = rng.bytes(n);
+    call.words = pack_state(&state).to_vec();
+    if rng.one_in(4) {
+        disturb_block(rng, &mut call.words);
+    }
+    call
+}
+
+// ------------------------------------------------------------------------------------------------------------------------------------
+// Slot calls
+// ------------------------------------------------------------------------------------------------------------------------------------
+
+pub fn aimed_slot(rng: &mut Rng, aim: u32) -> Call {
+    let mut call = Call::new(Kind::Slot, rng);
+    let scale = scale(rng);
+    let mut state = good_state(rng, scale);
+    if aim == 16 || (aim != 0 && rng.one_in(6)) {
+        state.places = [DumpPlace::Idle; 4];
+    } else {
+        force_busy(rng, &mut state);
+        if rng.one_in(3) {
+            force_four_busy(rng, &mut state);
+        }
+    }
+    call.tick = tick(rng);
+    call.image = image_for(rng, &state.setup, 0, None);
+    let mut has = |number: u32| aim == number || (aim != 0 && number > aim && rng.one_in(6));
+    let faults: Vec<u32> = (1..=3).filter(|&number| has(number)).collect();
+    let n = if faults.contains(&3) { short_length(rng, 4_092) } else { buffer_length(rng, 4_092) };
+    call.buffer = rng.bytes(n);
+    if faults.contains(&2) {
+        wrong_length(rng, &mut call.image);
+    }
+    call.words = if faults.contains(&1) { break_state(rng, &state) } else { pack_state(&state).to_vec() };
+    call.expected = Some(aim);
+    call
+}
+
+pub fn tick(rng: &mut Rng) -> u32 {
+    if rng.one_in(4) {
+        rng.pick(&[0, 1, 0x7FFF_FFFF, 0x8000_0000, u32::MAX])
+    } else {
+        rng.word()
+    }
+}
+
+pub fn free_slot(rng: &mut Rng) -> Call {
+    let mut call = aimed_slot(rng, 0);
+    call.expected = None;
+    disturb_block(rng, &mut call.words);
+    call
+}
+
+// ------------------------------------------------------------------------------------------------------------------------------------
+// Ground calls
+// ------------------------------------------------------------------------------------------------------------------------------------
+
+/// Command writer: aims 0, 3 (buffer), 6, 9 and 33 (3 by the block's length).
+pub fn write_call(rng: &mut Rng, aim: u32) -> Call {
+    let mut call = Call::new(Kind::WriteCommand, rng);
+    let code = rng.pick(&[0, 1, 4, 7]);
+    let mut block = rng.words(COMMAND_WORDS); // unused words are random: they are not read
+    block[0] = code;
+    block[1] = count(rng, 16_383);
+    block[2] = rng.below(16) as u32;
+    block[3] = count(rng, 4_095);
+    let need = match code {
+        0 => {
+            block[4] = rng.pick(&[1, 2, 11, 12, 1_016, 1_017, 65_534, 65_535, 256, 4_660]);
+            block[5] = rng.word() & !3;
+            if rng.one_in(4) {
+                block[5] = rng.pick(&[0, 4, 0xFFFF_FFFC]);
+            }
+            16
+        }
+        1 => 10,
+        4 => {
+            block[4] = rng.between(1, 11) as u32;
+            block[5] = rng.word() & !3;
+            60
+        }
+        _ => {
+            block[6] = rng.below(2) as u32;
+            12
+        }
+    };
+    let nine = aim == 9 || (aim != 0 && aim != 9 && rng.one_in(3));
+    if nine {
+        let way = rng.below(if code == 1 { 3 } else { 6 });
+        match way {
+            0 => block[1] = rng.pick(&[16_384, 16_385, 65_535, 65_536, u32::MAX]),
+            1 => block[2] = rng.pick(&[16, 17, 255, 256, 65_536, u32::MAX]),
+            2 => block[3] = rng.pick(&[4_096, 4_097, 65_535, 65_536, u32::MAX]),
+            _ => match code {
+                0 => match rng.below(2) {
+                    0 => block[4] = rng.pick(&[0, 65_536, 65_537, 0x8000_0001, u32::MAX]),
+                    _ => block[5] |= rng.between(1, 3) as u32,
+                },
+                4 => match rng.below(2) {
+                    0 => block[4] = rng.pick(&[0, 12, 13, 255, 256, 267, 65_535, 65_536, 65_537, 65_547, u32::MAX]),
+                    _ => block[5] |= rng.between(1, 3) as u32,
+                },
+                _ => block[6] = rng.pick(&[2, 3, 255, 256, 65_535, 65_536, 65_537, u32::MAX]),
+            },
+        }
+    }
+    let short = aim == 3 || (aim > 3 && aim != 9 && rng.one_in(3));
+    let n = if short { short_length(rng, need) } else { buffer_length(rng, need) };
+    call.buffer = rng.bytes(n);
+    if aim == 6 || (aim == 33 && rng.one_in(3)) {
+        block[0] = rng.pick(&[2, 3, 5, 6, 8, 9, 11, 127, 128, 132, 255, 256, 257, 260, 263, 65_536, 0x8000_0000, u32::MAX]);
+    }
+    call.fixed = block;
+    if aim == 33 {
+        let n = rng.pick(&[0, 1, 7, 17, 19, 36]);
+        let more = rng.words(n);
+        call.fixed.extend_from_slice(&more);
+        call.fixed.truncate(n);
+    }
+    call.expected = Some(if aim == 33 { 3 } else { aim });
+    call
+}
+
+fn reader_block(rng: &mut Rng, right: usize, wrong: bool) -> Vec<u32> {
+    let n = if wrong { rng.pick(&[0, 1, right - 1, right + 1, 2 * right]) } else { right };
+    rng.words(n)
+}
+
+/// Command reader: aims 0, 3 to 7 and 9, or none (99).
+pub fn read_command_call(rng: &mut Rng, aim: u32) -> Call {
+    let mut call = Call::new(Kind::ReadCommand, rng);
+    if aim == 99 {
+        let state = good_state(rng, Scale::Small);
+        call.packet = some_command(rng, &state);
+        damage_packet(rng, &mut call.packet, true);
+        let wrong = rng.one_in(30);
+        call.words = reader_block(rng, COMMAND_WORDS, wrong);
+        return call;
+    }
+    let mut state = good_state(rng, Scale::Small);
+    let inner = if aim == 9 || (aim != 0 && rng.one_in(3)) { 9 } else { rng.pick(&[0, 10, 11, 12, 13, 14, 15]) };
+    call.packet = aimed_body(rng, &mut state, inner).0;
+    let mut has = |number: u32| aim == number || (aim != 0 && number > aim && rng.one_in(4));
+    let faults: Vec<u32> = (3..=7).filter(|&number| has(number)).collect();
+    let p = &mut call.packet;
+    if faults.contains(&7) {
+        break_packet_length(rng, p);
+    }
+    if faults.contains(&6) {
+        p[6] = other_code(rng);
+        mend_check(p);
+    }
+    if faults.contains(&5) {
+        break_apid(rng, p, 1604, true);
+    }
+    if faults.contains(&4) {
+        break_command_header(rng, p);
+    }
+    call.words = reader_block(rng, COMMAND_WORDS, faults.contains(&3));
+    call.expected = Some(aim);
+    call
+}
+
+/// The fields of a dump packet, as eight numbers: count, unit, transaction, tick, address, words, data address, data words.
+fn raw_dump_packet(rng: &mut Rng, f: &[u32; 8], bytes: usize) -> Vec<u8> {
+    let mut packet = vec![0x03, 0x14, 0xC0 | (f[0] >> 8) as u8, f[0] as u8, 0, 0];
+    packet.extend_from_slice(&((f[1] << 12 | f[2]) as u16).to_be_bytes());
+    for field in &f[3..8] {
+        packet.extend_from_slice(&field.to_be_bytes());
+    }
+    let data = rng.bytes(bytes);
+    packet.extend_from_slice(&data);
+    mend_length(&mut packet);
+    packet
+}
+
+/// Fields of a packet that a slot could write.
+fn cut_fields(rng: &mut Rng) -> [u32; 8] {
+    let words = match rng.below(3) {
+        0 => rng.pick(&[1, 2, 1_015, 1_016, 1_017, 2_032, 2_033, 65_534, 65_535, 65_024, 65_025]),
+        1 => rng.between(1, 3_000) as u32,
+        _ => rng.between(1, 65_535) as u32,
+    };
+    let top = (1u64 << 32) - 4 * u64::from(words);
+    let address = match rng.below(4) {
+        0 => top as u32, // ends at 2^32
+        1 => 0,
+        _ => (4 * rng.below(top / 4 + 1)) as u32,
+    };
+    let cuts = words.div_ceil(1_016);
+    let j = match rng.below(3) {
+        0 => cuts - 1,
+        1 => 0,
+        _ => rng.below(u64::from(cuts)) as u32,
+    };
+    let sent = 1_016 * j;
+    let data_words = 1_016.min(words - sent);
+    [count(rng, 16_383), rng.below(16) as u32, count(rng, 4_095), tick(rng), address, words, address + 4 * sent, data_words]
+}
+
+/// Dump packet reader: aims 0, 3, 4, 5, 7 and 9, or none (99).
+pub fn read_packet_call(rng: &mut Rng, aim: u32, from_slot: Option<Vec<u8>>) -> Call {
+    let mut call = Call::new(Kind::ReadPacket, rng);
+    let mut f = cut_fields(rng);
+    if aim == 99 {
+        call.packet = match from_slot {
+            Some(packet) => packet,
+            None => {
+                let bytes = 4 * f[7] as usize;
+                raw_dump_packet(rng, &f, bytes)
+            }
+        };
+        damage_packet(rng, &mut call.packet, false);
+        let wrong = rng.one_in(30);
+        call.words = reader_block(rng, PACKET_WORDS, wrong);
+        return call;
+    }
+    if aim == 9 {
+        match rng.below(8) {
+            0 => f[4] |= rng.between(1, 3) as u32, // requested address
+            1 => {
+                // Both addresses moved alike: only the alignment is wrong.
+                let by = rng.between(1, 3) as u32;
+                f[4] |= by;
+                f[6] |= by;
+            }
+            2 => f[5] = 0,
+            3 => {
+                // Over 65,535 words: the last cut, or an early one, of a request that is too large.
+                f[5] = rng.pick(&[65_536, 65_537, 66_040, 0x0001_0001, 1_048_576, u32::MAX]);
+                f[4] = rng.pick(&[0, 4, 0x1000]);
+                f[6] = f[4];
+                f[7] = 1_016;
+            }
+            4 => {
+                // One word past 2^32.
+                f[5] = rng.between(2, 65_535) as u32;
+                f[4] = ((1u64 << 32) - 4 * u64::from(f[5]) + 4) as u32;
+                f[6] = f[4];
+                f[7] = f[5].min(1_016);
+            }
+            5 => f[6] = f[6].wrapping_add(rng.pick(&[1, 2, 4, 4_060, u32::MAX, u32::MAX - 3])),
+            6 => {
+                // A cut before the first or after the last.
+                let cuts = f[5].div_ceil(1_016);
+                f[6] = if rng.one_in(2) { f[4].wrapping_sub(4_064) } else { f[4].wrapping_add(4_064 * cuts) };
+                f[7] = rng.pick(&[1, 1_016, f[7]]);
+            }
+            _ => {
+                // Words not those of the cut.
+                let right = f[7];
+                while f[7] == right {
+                    f[7] = rng.pick(&[1, 2, 1_015, 1_016, right.saturating_sub(1).max(1), (right + 1).min(1_016)]);
+                }
+            }
+        }
+    }
+    let mut bytes = 4 * f[7] as usize;
+    let mut has = |number: u32| aim == number || (aim != 0 && number > aim && rng.one_in(4));
+    let faults: Vec<u32> = [3, 4, 5, 7].into_iter().filter(|&number| has(number)).collect();
+    if faults.contains(&7) {
+        match rng.below(5) {
+            0 => {
+                f[7] = 0;
+                bytes = rng.pick(&[0, 4]);
+            }
+            1 => {
+                // 1,017 words and their bytes.
+                f[7] = rng.pick(&[1_017, 1_018, 2_032]);
+                bytes = 4 * f[7] as usize;
+            }
+            2 => {
+                bytes = match rng.below(4) {
+                    0 => bytes - 1,
+                    1 => bytes + 1,
+                    2 => bytes + 4,
+                    _ => bytes - 4,
+                }
+            }
+            3 => f[7] = rng.pick(&[0x4000_0000 + f[7], 0x8000_0000 + f[7], 65_536 + f[7], u32::MAX]), // right modulo something
+            _ => {
+                let right = bytes;
+                while bytes == right {
+                    bytes = rng.below(4_070) as usize;
+                }
+            }
+        }
+    }
+    call.packet = raw_dump_packet(rng, &f, bytes);
+    let p = &mut call.packet;
+    if faults.contains(&5) {
+        break_apid(rng, p, 788, false);
+    }
+    if faults.contains(&4) {
+        match rng.below(8) {
+            0 => {
+                let to = rng.below(28) as usize;
+                p.truncate(to);
+                mend_length(p);
+            }
+            1 => {
+                let to = rng.pick(&[27, 27, 27, 7, 6, 5]);
+                p.truncate(to);
+                mend_length(p);
+            }
+            2 => p[0] ^= (rng.between(1, 7) << 5) as u8,
+            3 => p[0] ^= 0x10,
+            4 => p[0] ^= 0x08,
+            5 => p[2] ^= (rng.between(1, 3) << 6) as u8,
+            6 => {
+                let right = u16::from_be_bytes([p[4], p[5]]);
+                let wrong = right.wrapping_add(rng.pick(&[1, 7, 256, 65_535, 65_529]));
+                p[4..6].copy_from_slice(&wrong.to_be_bytes());
+            }
+            _ => {
+                let n = if rng.one_in(10) { 65_536 } else { rng.between(1, 8) as usize };
+                let more = rng.bytes(n);
+                p.extend_from_slice(&more);
+            }
+        }
+    }
+    call.words = reader_block(rng, PACKET_WORDS, faults.contains(&3));
+    call.expected = Some(aim);
+    call
+}
+

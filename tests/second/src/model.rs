@@ -1,0 +1,830 @@
+//! The memory service of paper 01, written a second time, from the paper alone.
+//!
+//! Plain style: one function for each rule, each naming the section of the paper that it comes from. All sums of addresses are done in 64 bits.
+
+// ------------------------------------------------------------------------------------------------------------------------------------
+// "The box and what it handles": kinds of number
+// ------------------------------------------------------------------------------------------------------------------------------------
+
+/// A byte address in the box's memory.
+#[derive(Clone, Copy, PartialEq, Eq, Debug)]
+pub struct Address(pub u32);
+
+/// A word's place in the lent image.
+#[derive(Clone, Copy, PartialEq, Eq, Debug)]
+pub struct ImageWord(pub usize);
+
+// "Regions and image" and "Where things come from": the fixed figures.
+pub const REGIONS_MOST: usize = 16;
+pub const REGION_WORDS_MOST: u32 = 1_048_576;
+pub const MEMORY_END: u64 = 1 << 32;
+pub const UNIT_MOST: u32 = 15;
+pub const TRANSACTION_MOST: u32 = 4_095;
+pub const REQUEST_MOST: u32 = 65_535;
+pub const CUT: u32 = 1_016;
+pub const PACKET_COUNT_MOST: u32 = 16_383;
+pub const COMMAND_COUNT_MOST: u32 = 65_535;
+pub const REPLY_BYTES: usize = 32;
+pub const SLOT_BYTES: usize = 4_092;
+pub const PACKET_HEADER_BYTES: usize = 28;
+pub const LOAD_WORDS: usize = 11;
+
+pub const APID_COMMAND: u32 = 1604;
+pub const APID_POOL: u32 = 785;
+pub const APID_DUMP: u32 = 788;
+
+// ------------------------------------------------------------------------------------------------------------------------------------
+// "Regions and image": types
+// ------------------------------------------------------------------------------------------------------------------------------------
+
+#[derive(Clone, Copy, PartialEq, Eq, Debug)]
+pub struct Region {
+    pub start: Address,
+    pub size: u32,
+    pub load: bool,
+    pub dump: bool,
+}
+
+pub const NO_REGION: Region = Region { start: Address(0), size: 0, load: false, dump: false };
+
+#[derive(Clone, Copy, PartialEq, Eq, Debug)]
+pub struct Pool {
+    pub start: Address,
+    pub size: u32,
+}
+
+pub const NO_POOL: Pool = Pool { start: Address(0), size: 0 };
+
+/// What start-up takes.
+#[derive(Clone, PartialEq, Eq, Debug)]
+pub struct Setup {
+    pub region_count: u32,
+    pub regions: [Region; REGIONS_MOST],
+    pub pools: [Pool; 2],
+    pub unit: u32,
+}
+
+#[derive(Clone, Copy, PartialEq, Eq, Debug)]
+pub struct Dump {
+    pub transaction: u32,
+    pub start: Address,
+    pub requested: u32,
+    pub sent: u32,
+}
+
+#[derive(Clone, Copy, PartialEq, Eq, Debug)]
+pub enum DumpPlace {
+    Idle,
+    Busy(Dump),
+}
+
+#[derive(Clone, PartialEq, Eq, Debug)]
+pub struct State {
+    pub setup: Setup,
+    pub places: [DumpPlace; 4],
+    pub last: u32,
+    pub count_785: u32,
+    pub count_788: u32,
+    pub accepted: u32,
+    pub refused: u32,
+}
+
+// ------------------------------------------------------------------------------------------------------------------------------------
+// "Regions and image": the rules
+// ------------------------------------------------------------------------------------------------------------------------------------
+
+/// The end of a range: start plus 4 times size, never wrapped.
+fn end_of(start: Address, words: u32) -> u64 {
+    u64::from(start.0) + 4 * u64::from(words)
+}
+
+fn aligned(address: Address) -> bool {
+    address.0 % 4 == 0
+}
+
+/// "Each start is a multiple of 4; each size is 1 to 1,048,576 words; each end is at most 2^32".
+fn region_keeps_rules(region: &Region) -> bool {
+    aligned(region.start) && region.size >= 1 && region.size <= REGION_WORDS_MOST && end_of(region.start, region.size) <= MEMORY_END
+}
+
+/// "A table has 1 to 16 regions, ascending by start ... and [each end is] at most the next start."
+fn table_keeps_rules(setup: &Setup) -> bool {
+    if setup.region_count < 1 || setup.region_count as usize > REGIONS_MOST {
+        return false;
+    }
+    let regions = used_regions(setup);
+    for region in regions {
+        if !region_keeps_rules(region) {
+            return false;
+        }
+    }
+    for i in 1..regions.len() {
+        let before = &regions[i - 1];
+        let after = &regions[i];
+        if before.start.0 >= after.start.0 {
+            return false;
+        }
+        if end_of(before.start, before.size) > u64::from(after.start.0) {
+            return false;
+        }
+    }
+    true
+}
+
+/// The entries that the table uses. Entries after them say nothing.
+fn used_regions(setup: &Setup) -> &[Region] {
+    &setup.regions[..setup.region_count as usize]
+}
+
+/// The number of the region in which the range lies whole, if there is one.
+fn region_holding(setup: &Setup, start: Address, words: u32) -> Option<usize> {
+    for (i, region) in used_regions(setup).iter().enumerate() {
+        if start.0 >= region.start.0 && end_of(start, words) <= end_of(region.start, region.size) {
+            return Some(i);
+        }
+    }
+    None
+}
+
+/// "Size 0 means no such pool, and its start is then 0. Otherwise start is a multiple of 4 and the pool lies whole in one region with dump
+/// right."
+fn pool_keeps_rules(setup: &Setup, pool: &Pool) -> bool {
+    if pool.size == 0 {
+        return pool.start == Address(0);
+    }
+    if !aligned(pool.start) {
+        return false;
+    }
+    match region_holding(setup, pool.start, pool.size) {
+        None => false,
+        Some(i) => setup.regions[i].dump,
+    }
+}
+
+/// "its table, pools and unit keep these rules".
+pub fn setup_keeps_rules(setup: &Setup) -> bool {
+    table_keeps_rules(setup)
+        && pool_keeps_rules(setup, &setup.pools[0])
+        && pool_keeps_rules(setup, &setup.pools[1])
+        && setup.unit <= UNIT_MOST
+}
+
+/// The image's length: "the sum of the sizes".
+pub fn image_words(setup: &Setup) -> u64 {
+    used_regions(setup).iter().map(|region| u64::from(region.size)).sum()
+}
+
+/// Where in the image the word at an address of region `i` is: the regions lie back to back in table order.
+fn place_in_image(setup: &Setup, i: usize, address: Address) -> ImageWord {
+    let before: u64 = setup.regions[..i].iter().map(|region| u64::from(region.size)).sum();
+    let within = u64::from((address.0 - setup.regions[i].start.0) / 4);
+    ImageWord((before + within) as usize)
+}
+
+// ------------------------------------------------------------------------------------------------------------------------------------
+// "Regions and image": start-up and the good state
+// ------------------------------------------------------------------------------------------------------------------------------------
+
+/// "A fresh state has four idle dump places, last place served 3, and all counts 0."
+fn fresh(setup: Setup) -> State {
+    State { setup, places: [DumpPlace::Idle; 4], last: 3, count_785: 0, count_788: 0, accepted: 0, refused: 0 }
+}
+
+/// "a state of zero regions, no pools, unit 0 and the rest as if fresh".
+pub fn state_of_zero_regions() -> State {
+    fresh(Setup { region_count: 0, regions: [NO_REGION; REGIONS_MOST], pools: [NO_POOL; 2], unit: 0 })
+}
+
+/// Start-up: 0 and a fresh state, or 17.
+pub fn start_up(setup: &Setup) -> (u32, State) {
+    if !setup_keeps_rules(setup) {
+        return (17, state_of_zero_regions());
+    }
+    // "Unused region entries in a state that start-up gives are all zero."
+    let mut kept = setup.clone();
+    for i in setup.region_count as usize..REGIONS_MOST {
+        kept.regions[i] = NO_REGION;
+    }
+    (0, fresh(kept))
+}
+
+/// What the good state asks of one busy dump by itself.
+fn busy_dump_is_good(setup: &Setup, dump: &Dump) -> bool {
+    if dump.transaction > TRANSACTION_MOST {
+        return false;
+    }
+    if dump.requested < 1 || dump.requested > REQUEST_MOST {
+        return false;
+    }
+    if !aligned(dump.start) {
+        return false;
+    }
+    match region_holding(setup, dump.start, dump.requested) {
+        None => return false,
+        Some(i) => {
+            if !setup.regions[i].dump {
+                return false;
+            }
+        }
+    }
+    dump.sent % CUT == 0 && dump.sent < dump.requested
+}
+
+/// The place that is busy with a transaction number.
+fn busy_place_with(places: &[DumpPlace; 4], transaction: u32) -> Option<usize> {
+    for (i, place) in places.iter().enumerate() {
+        if let DumpPlace::Busy(dump) = place {
+            if dump.transaction == transaction {
+                return Some(i);
+            }
+        }
+    }
+    None
+}
+
+/// "a transaction number ... shared with no other busy dump".
+fn transactions_differ(places: &[DumpPlace; 4]) -> bool {
+    for i in 0..4 {
+        for k in 0..i {
+            if let (DumpPlace::Busy(a), DumpPlace::Busy(b)) = (&places[i], &places[k]) {
+                if a.transaction == b.transaction {
+                    return false;
+                }
+            }
+        }
+    }
+    true
+}
+
+/// "A handed-in state is good if ..."
+pub fn state_is_good(state: &State) -> bool {
+    if !setup_keeps_rules(&state.setup) {
+        return false;
+    }
+    if state.last > 3 {
+        return false;
+    }
+    if state.count_785 > PACKET_COUNT_MOST || state.count_788 > PACKET_COUNT_MOST {
+        return false;
+    }
+    if state.accepted > COMMAND_COUNT_MOST || state.refused > COMMAND_COUNT_MOST {
+        return false;
+    }
+    for place in &state.places {
+        if let DumpPlace::Busy(dump) = place {
+            if !busy_dump_is_good(&state.setup, dump) {
+                return false;
+            }
+        }
+    }
+    transactions_differ(&state.places)
+}
+
+// ------------------------------------------------------------------------------------------------------------------------------------
+// Big-endian numbers and the CCSDS primary header ("All numbers kept in bytes are big-endian.")
+// ------------------------------------------------------------------------------------------------------------------------------------
+
+fn get16(bytes: &[u8], at: usize) -> u32 {
+    u32::from(bytes[at]) * 256 + u32::from(bytes[at + 1])
+}
+
+fn get32(bytes: &[u8], at: usize) -> u32 {
+    get16(bytes, at) * 65_536 + get16(bytes, at + 2)
+}
+
+fn put16(bytes: &mut [u8], at: usize, number: u32) {
+    bytes[at] = (number / 256 % 256) as u8;
+    bytes[at + 1] = (number % 256) as u8;
+}
+
+fn put32(bytes: &mut [u8], at: usize, number: u32) {
+    put16(bytes, at, number / 65_536);
+    put16(bytes, at + 2, number % 65_536);
+}
+
+fn version_of(bytes: &[u8]) -> u32 {
+    get16(bytes, 0) / 8_192
+}
+
+fn type_of(bytes: &[u8]) -> u32 {
+    get16(bytes, 0) / 4_096 % 2
+}
+
+fn second_header_flag_of(bytes: &[u8]) -> u32 {
+    get16(bytes, 0) / 2_048 % 2
+}
+
+fn apid_of(bytes: &[u8]) -> u32 {
+    get16(bytes, 0) % 2_048
+}
+
+fn sequence_flags_of(bytes: &[u8]) -> u32 {
+    get16(bytes, 2) / 16_384
+}
+
+fn sequence_count_of(bytes: &[u8]) -> u32 {
+    get16(bytes, 2) % 16_384
+}
+
+/// "length field = packet bytes minus 7". Not modulo anything: a packet of over 65,542 bytes has no right length field.
+fn length_field_is_right(bytes: &[u8]) -> bool {
+    bytes.len() >= 7 && get16(bytes, 4) as usize == bytes.len() - 7
+}
+
+fn put_primary_header(bytes: &mut [u8], kind: u32, second_header: u32, apid: u32, count: u32, length: usize) {
+    put16(bytes, 0, kind * 4_096 + second_header * 2_048 + apid);
+    put16(bytes, 2, 3 * 16_384 + count);
+    put16(bytes, 4, (length - 7) as u32);
+}
+
+fn exclusive_or(bytes: &[u8]) -> u8 {
+    let mut sum = 0;
+    for byte in bytes {
+        sum ^= byte;
+    }
+    sum
+}
+
+// ------------------------------------------------------------------------------------------------------------------------------------
+// "Command packets"
+// ------------------------------------------------------------------------------------------------------------------------------------
+
+#[derive(Clone, PartialEq, Eq, Debug)]
+pub enum Command {
+    Dump { size: u32, address: Address },
+    Cancel,
+    Load { size: u32, address: Address, data: [u32; LOAD_WORDS] },
+    PoolStatistics { pool: u32 },
+}
+
+#[derive(Clone, PartialEq, Eq, Debug)]
+pub struct Fields {
+    pub sequence: u32,
+    pub unit: u32,
+    pub transaction: u32,
+    pub command: Command,
+}
+
+/// The table's first and last columns: the packet bytes of a function code. None: any other code.
+pub fn packet_bytes_of_code(code: u32) -> Option<usize> {
+    match code {
+        0 => Some(16),
+        1 => Some(10),
+        4 => Some(60),
+        7 => Some(12),
+        _ => None,
+    }
+}
+
+/// The function code of a command.
+pub fn code_of(command: &Command) -> u32 {
+    match command {
+        Command::Dump { .. } => 0,
+        Command::Cancel => 1,
+        Command::Load { .. } => 4,
+        Command::PoolStatistics { .. } => 7,
+    }
+}
+
+/// Number 4: "under 8 bytes, wrong version, type, flags, length field, zero bit or check byte".
+fn command_header_is_wrong(packet: &[u8]) -> bool {
+    packet.len() < 8
+        || version_of(packet) != 0
+        || type_of(packet) != 1
+        || second_header_flag_of(packet) != 1
+        || sequence_flags_of(packet) != 3
+        || !length_field_is_right(packet)
+        || packet[6] >= 128
+        || exclusive_or(packet) != 0xFF
+}
+
+/// Numbers 4 to 7, which a packet earns by itself; 0 if none of them.
+fn frame_number(packet: &[u8]) -> u32 {
+    if command_header_is_wrong(packet) {
+        return 4;
+    }
+    if apid_of(packet) != APID_COMMAND {
+        return 5;
+    }
+    match packet_bytes_of_code(u32::from(packet[6])) {
+        None => 6,
+        Some(length) => {
+            if packet.len() != length {
+                7
+            } else {
+                0
+            }
+        }
+    }
+}
+
+/// The fields of a packet whose frame is right (`frame_number` is 0). All eleven data words of a load are taken as they stand.
+fn fields_of(packet: &[u8]) -> Fields {
+    let command = match packet[6] {
+        0 => Command::Dump { size: get16(packet, 10), address: Address(get32(packet, 12)) },
+        1 => Command::Cancel,
+        4 => {
+            let mut data = [0; LOAD_WORDS];
+            for (i, word) in data.iter_mut().enumerate() {
+                *word = get32(packet, 16 + 4 * i);
+            }
+            Command::Load { size: get16(packet, 10), address: Address(get32(packet, 12)), data }
+        }
+        _ => Command::PoolStatistics { pool: get16(packet, 10) },
+    };
+    Fields { sequence: sequence_count_of(packet), unit: get16(packet, 8) / 4_096, transaction: get16(packet, 8) % 4_096, command }
+}
+
+/// Number 9: "address not a multiple of 4; dump size 0; load size 0 or over 11; pool over 1". A dump's size is a 16-bit number; for the writer,
+/// which could be given more, more is out of bounds too.
+fn fields_break_bounds(command: &Command) -> bool {
+    match command {
+        Command::Dump { size, address } => !aligned(*address) || *size == 0 || *size > REQUEST_MOST,
+        Command::Cancel => false,
+        Command::Load { size, address, .. } => !aligned(*address) || *size == 0 || *size > LOAD_WORDS as u32,
+        Command::PoolStatistics { pool } => *pool > 1,
+    }
+}
+
+// ------------------------------------------------------------------------------------------------------------------------------------
+// "Result numbers": what a command call gives
+// ------------------------------------------------------------------------------------------------------------------------------------
+
+#[derive(Clone, PartialEq, Eq, Debug)]
+pub struct CommandAnswer {
+    pub number: u32,
+    pub state: State,
+    /// Bytes written to the reply buffer.
+    pub reply_length: u32,
+}
+
+/// "Numbers 1, 2, 3, 5, 8 and 16 return the state as handed in. Numbers 4, 6, 7 and 9 to 15, given to a command, add one to the refused
+/// count and change no other part of the state."
+fn refused(state: &State, number: u32) -> CommandAnswer {
+    let mut after = state.clone();
+    match number {
+        4 | 6 | 7 | 9..=15 => after.refused = (state.refused + 1) % 65_536,
+        _ => {}
+    }
+    CommandAnswer { number, state: after, reply_length: 0 }
+}
+
+/// "Number 0 to a command adds one to the accepted count."
+fn accepted(mut after: State, reply_length: u32) -> CommandAnswer {
+    after.accepted = (after.accepted + 1) % 65_536;
+    CommandAnswer { number: 0, state: after, reply_length }
+}
+
+/// The command call.
+pub fn command_call(state: &State, packet: &[u8], image: &mut [u32], reply: &mut [u8]) -> CommandAnswer {
+    if !state_is_good(state) {
+        return refused(state, 1);
+    }
+    if image.len() as u64 != image_words(&state.setup) {
+        return refused(state, 2);
+    }
+    if reply.len() < REPLY_BYTES {
+        return refused(state, 3);
+    }
+    let number = frame_number(packet);
+    if number != 0 {
+        return refused(state, number);
+    }
+    let fields = fields_of(packet);
+    if fields.unit != state.setup.unit {
+        return refused(state, 8);
+    }
+    if fields_break_bounds(&fields.command) {
+        return refused(state, 9);
+    }
+    match fields.command {
+        Command::Dump { size, address } => do_dump(state, fields.transaction, size, address),
+        Command::Cancel => do_cancel(state, fields.transaction),
+        Command::Load { size, address, data } => do_load(state, size, address, &data, image),
+        Command::PoolStatistics { pool } => do_pool_statistics(state, fields.transaction, pool, image, reply),
+    }
+}
+
+// ------------------------------------------------------------------------------------------------------------------------------------
+// "What each command does"
+// ------------------------------------------------------------------------------------------------------------------------------------
+
+/// "Dump fills the lowest-numbered idle place; nothing is sent yet."
+fn do_dump(state: &State, transaction: u32, size: u32, address: Address) -> CommandAnswer {
+    let region = match region_holding(&state.setup, address, size) {
+        None => return refused(state, 10),
+        Some(i) => state.setup.regions[i],
+    };
+    if !region.dump {
+        return refused(state, 11);
+    }
+    if busy_place_with(&state.places, transaction).is_some() {
+        return refused(state, 12);
+    }
+    let mut idle = None;
+    for i in (0..4).rev() {
+        if state.places[i] == DumpPlace::Idle {
+            idle = Some(i);
+        }
+    }
+    match idle {
+        None => refused(state, 13),
+        Some(i) => {
+            let mut after = state.clone();
+            after.places[i] = DumpPlace::Busy(Dump { transaction, start: address, requested: size, sent: 0 });
+            accepted(after, 0)
+        }
+    }
+}
+
+/// "Cancel makes its dump's place idle."
+fn do_cancel(state: &State, transaction: u32) -> CommandAnswer {
+    match busy_place_with(&state.places, transaction) {
+        None => refused(state, 14),
+        Some(i) => {
+            let mut after = state.clone();
+            after.places[i] = DumpPlace::Idle;
+            accepted(after, 0)
+        }
+    }
+}
+
+/// "Load writes its words at its address in the image." "Load data beyond the size is ignored." "Loads into the range of a busy dump are
+/// allowed."
+fn do_load(state: &State, size: u32, address: Address, data: &[u32; LOAD_WORDS], image: &mut [u32]) -> CommandAnswer {
+    let i = match region_holding(&state.setup, address, size) {
+        None => return refused(state, 10),
+        Some(i) => i,
+    };
+    if !state.setup.regions[i].load {
+        return refused(state, 11);
+    }
+    let first = place_in_image(&state.setup, i, address);
+    for k in 0..size as usize {
+        image[first.0 + k] = data[k];
+    }
+    accepted(state.clone(), 0)
+}
+
+#[derive(Clone, Copy, PartialEq, Eq, Debug)]
+struct Figures {
+    free_words: u32,
+    free_blocks: u32,
+    largest_free: u32,
+    used_words: u32,
+    used_blocks: u32,
+}
+
+/// "Blocks follow each other and end exactly at the pool's end; a size of 0 or a block past the end is damage." None: damage.
+fn walk_blocks(pool: &[u32]) -> Option<Figures> {
+    let mut figures = Figures { free_words: 0, free_blocks: 0, largest_free: 0, used_words: 0, used_blocks: 0 };
+    let mut at: u64 = 0;
+    while at < pool.len() as u64 {
+        let first = pool[at as usize];
+        let used = first >= 0x8000_0000;
+        let size = first % 0x8000_0000;
+        if size == 0 || at + u64::from(size) > pool.len() as u64 {
+            return None;
+        }
+        if used {
+            figures.used_words += size;
+            figures.used_blocks += 1;
+        } else {
+            figures.free_words += size;
+            figures.free_blocks += 1;
+            if size > figures.largest_free {
+                figures.largest_free = size;
+            }
+        }
+        at += u64::from(size);
+    }
+    Some(figures)
+}
+
+/// Pool statistics: the 32 bytes of the reply, and the 785 count raised.
+fn do_pool_statistics(state: &State, transaction: u32, number: u32, image: &[u32], reply: &mut [u8]) -> CommandAnswer {
+    let pool = state.setup.pools[number as usize];
+    if pool.size == 0 {
+        return refused(state, 10);
+    }
+    // A good state has each pool whole in one region with dump right, so 11 cannot be given here.
+    let i = region_holding(&state.setup, pool.start, pool.size).expect("a good state's pool lies in a region");
+    let first = place_in_image(&state.setup, i, pool.start).0;
+    let figures = match walk_blocks(&image[first..first + pool.size as usize]) {
+        None => return refused(state, 15),
+        Some(figures) => figures,
+    };
+    put_primary_header(reply, 0, 0, APID_POOL, state.count_785, REPLY_BYTES);
+    put16(reply, 6, state.setup.unit * 4_096 + transaction);
+    put16(reply, 8, number);
+    put16(reply, 10, 0);
+    put32(reply, 12, figures.free_words);
+    put32(reply, 16, figures.free_blocks);
+    put32(reply, 20, figures.largest_free);
+    put32(reply, 24, figures.used_words);
+    put32(reply, 28, figures.used_blocks);
+    let mut after = state.clone();
+    after.count_785 = (state.count_785 + 1) % 16_384;
+    accepted(after, REPLY_BYTES as u32)
+}
+
+// ------------------------------------------------------------------------------------------------------------------------------------
+// "Telemetry slots"
+// ------------------------------------------------------------------------------------------------------------------------------------
+
+#[derive(Clone, PartialEq, Eq, Debug)]
+pub struct SlotAnswer {
+    pub number: u32,
+    pub state: State,
+    pub length: u32,
+}
+
+fn slot_refused(state: &State, number: u32) -> SlotAnswer {
+    SlotAnswer { number, state: state.clone(), length: 0 }
+}
+
+/// "It serves the first busy place after the last one served, going round 0, 1, 2, 3." The last one itself comes last.
+fn place_to_serve(state: &State) -> Option<(usize, Dump)> {
+    for step in 1..=4 {
+        let i = (state.last as usize + step) % 4;
+        if let DumpPlace::Busy(dump) = state.places[i] {
+            return Some((i, dump));
+        }
+    }
+    None
+}
+
+/// The slot call.
+pub fn slot_call(state: &State, tick: u32, image: &[u32], buffer: &mut [u8]) -> SlotAnswer {
+    if !state_is_good(state) {
+        return slot_refused(state, 1);
+    }
+    if image.len() as u64 != image_words(&state.setup) {
+        return slot_refused(state, 2);
+    }
+    if buffer.len() < SLOT_BYTES {
+        return slot_refused(state, 3);
+    }
+    let (i, dump) = match place_to_serve(state) {
+        None => return slot_refused(state, 16),
+        Some(found) => found,
+    };
+    let left = dump.requested - dump.sent;
+    let words = if left > CUT { CUT } else { left };
+    let data_address = Address(dump.start.0 + 4 * dump.sent);
+    let length = PACKET_HEADER_BYTES + 4 * words as usize;
+
+    put_primary_header(buffer, 0, 0, APID_DUMP, state.count_788, length);
+    put16(buffer, 6, state.setup.unit * 4_096 + dump.transaction);
+    put32(buffer, 8, tick);
+    put32(buffer, 12, dump.start.0);
+    put32(buffer, 16, dump.requested);
+    put32(buffer, 20, data_address.0);
+    put32(buffer, 24, words);
+    let region = region_holding(&state.setup, dump.start, dump.requested).expect("a good state's dump lies in a region");
+    let first = place_in_image(&state.setup, region, data_address).0;
+    for k in 0..words as usize {
+        put32(buffer, PACKET_HEADER_BYTES + 4 * k, image[first + k]);
+    }
+
+    let mut after = state.clone();
+    after.last = i as u32;
+    after.count_788 = (state.count_788 + 1) % 16_384;
+    after.places[i] = if words == left {
+        DumpPlace::Idle // "frees the place after the last packet"
+    } else {
+        DumpPlace::Busy(Dump { sent: dump.sent + words, ..dump })
+    };
+    SlotAnswer { number: 0, state: after, length: length as u32 }
+}
+
+// ------------------------------------------------------------------------------------------------------------------------------------
+// "Ground reader and writer"
+// ------------------------------------------------------------------------------------------------------------------------------------
+
+/// The command writer: "3 if shorter than the packet, then 9 ...; nothing is written. Otherwise it writes that packet and leaves later bytes."
+/// Gives the packet's bytes.
+pub fn write_command(fields: &Fields, buffer: &mut [u8]) -> Result<usize, u32> {
+    let code = code_of(&fields.command);
+    let length = packet_bytes_of_code(code).expect("each command has a length");
+    if buffer.len() < length {
+        return Err(3);
+    }
+    if fields.unit > UNIT_MOST
+        || fields.transaction > TRANSACTION_MOST
+        || fields.sequence > PACKET_COUNT_MOST
+        || fields_break_bounds(&fields.command)
+    {
+        return Err(9);
+    }
+    let packet = &mut buffer[..length];
+    put_primary_header(packet, 1, 1, APID_COMMAND, fields.sequence, length);
+    packet[6] = code as u8;
+    packet[7] = 0;
+    put16(packet, 8, fields.unit * 4_096 + fields.transaction);
+    match &fields.command {
+        Command::Dump { size, address } => {
+            put16(packet, 10, *size);
+            put32(packet, 12, address.0);
+        }
+        Command::Cancel => {}
+        Command::Load { size, address, data } => {
+            put16(packet, 10, *size);
+            put32(packet, 12, address.0);
+            for k in 0..LOAD_WORDS {
+                // "A load is given eleven words; the unused are written 0."
+                let word = if k < *size as usize { data[k] } else { 0 };
+                put32(packet, 16 + 4 * k, word);
+            }
+        }
+        Command::PoolStatistics { pool } => put16(packet, 10, *pool),
+    }
+    packet[7] = 0xFF ^ exclusive_or(packet);
+    Ok(length)
+}
+
+/// The command reader: "answers 4, 5, 6, 7, 9 or the fields". Data words of a load beyond its size are ignored: given as 0.
+pub fn read_command(packet: &[u8]) -> Result<Fields, u32> {
+    let number = frame_number(packet);
+    if number != 0 {
+        return Err(number);
+    }
+    let mut fields = fields_of(packet);
+    if fields_break_bounds(&fields.command) {
+        return Err(9);
+    }
+    if let Command::Load { size, data, .. } = &mut fields.command {
+        for k in *size as usize..LOAD_WORDS {
+            data[k] = 0;
+        }
+    }
+    Ok(fields)
+}
+
+#[derive(Clone, Copy, PartialEq, Eq, Debug)]
+pub struct PacketFields {
+    pub count: u32,
+    pub unit: u32,
+    pub transaction: u32,
+    pub tick: u32,
+    pub requested_address: Address,
+    pub requested_words: u32,
+    pub data_address: Address,
+    pub data_words: u32,
+}
+
+/// "4 for under 28 bytes or a wrong version, type, flag or length field". The sequence flags are among the flags: a slot only writes 3.
+fn packet_header_is_wrong(packet: &[u8]) -> bool {
+    packet.len() < PACKET_HEADER_BYTES
+        || version_of(packet) != 0
+        || type_of(packet) != 0
+        || second_header_flag_of(packet) != 0
+        || sequence_flags_of(packet) != 3
+        || !length_field_is_right(packet)
+}
+
+/// "the requested range could be a dump (aligned, 1 to 65,535 words, end at most 2^32)".
+fn could_be_a_dump(start: Address, words: u32) -> bool {
+    aligned(start) && words >= 1 && words <= REQUEST_MOST && end_of(start, words) <= MEMORY_END
+}
+
+/// "this packet is one of its cuts of 1,016": it begins at a multiple of 1,016 words below the request, and has 1,016 words or what is left.
+fn is_a_cut(fields: &PacketFields) -> bool {
+    let mut sent = 0;
+    while sent < fields.requested_words {
+        let left = fields.requested_words - sent;
+        let words = if left > CUT { CUT } else { left };
+        if u64::from(fields.data_address.0) == end_of(fields.requested_address, sent) && fields.data_words == words {
+            return true;
+        }
+        sent += words;
+    }
+    false
+}
+
+/// The dump packet reader: the fields and the data part of the caller's own packet.
+pub fn read_packet(packet: &[u8]) -> Result<(PacketFields, &[u8]), u32> {
+    if packet_header_is_wrong(packet) {
+        return Err(4);
+    }
+    if apid_of(packet) != APID_DUMP {
+        return Err(5);
+    }
+    let fields = PacketFields {
+        count: sequence_count_of(packet),
+        unit: get16(packet, 6) / 4_096,
+        transaction: get16(packet, 6) % 4_096,
+        tick: get32(packet, 8),
+        requested_address: Address(get32(packet, 12)),
+        requested_words: get32(packet, 16),
+        data_address: Address(get32(packet, 20)),
+        data_words: get32(packet, 24),
+    };
+    if fields.data_words < 1 || fields.data_words > CUT || packet.len() != PACKET_HEADER_BYTES + 4 * fields.data_words as usize {
+        return Err(7);
+    }
+    if !could_be_a_dump(fields.requested_address, fields.requested_words) || !is_a_cut(&fields) {
+        return Err(9);
+    }
+    Ok((fields, &packet[PACKET_HEADER_BYTES..]))
+}

@@ -1,0 +1,232 @@
+//! "Checked examples" E1 to E12 of paper 01, against the model alone.
+use second::model::*;
+
+const BOTH: (bool, bool) = (true, true);
+
+fn setup(regions: &[(u32, u32, (bool, bool))], pools: [(u32, u32); 2]) -> Setup {
+    let mut table = [NO_REGION; REGIONS_MOST];
+    for (i, (start, size, (load, dump))) in regions.iter().enumerate() {
+        table[i] = Region { start: Address(*start), size: *size, load: *load, dump: *dump };
+    }
+    let pool = |(start, size): (u32, u32)| Pool { start: Address(start), size };
+    Setup { region_count: regions.len() as u32, regions: table, pools: [pool(pools[0]), pool(pools[1])], unit: 2 }
+}
+
+fn started(regions: &[(u32, u32, (bool, bool))], pools: [(u32, u32); 2]) -> State {
+    let (number, state) = start_up(&setup(regions, pools));
+    assert_eq!(number, 0);
+    state
+}
+
+fn usual() -> (State, Vec<u32>) {
+    (started(&[(0x1000, 4, BOTH)], [(0, 0); 2]), vec![0x11111111, 0x22222222, 0x33333333, 0x44444444])
+}
+
+fn bytes(hex: &str) -> Vec<u8> {
+    hex.split_whitespace().map(|byte| u8::from_str_radix(byte, 16).unwrap()).collect()
+}
+
+fn packet(sequence: u32, transaction: u32, command: Command) -> Vec<u8> {
+    let mut buffer = vec![0xAA; 70];
+    let length = write_command(&Fields { sequence, unit: 2, transaction, command }, &mut buffer).unwrap();
+    assert!(buffer[length..].iter().all(|&byte| byte == 0xAA));
+    buffer.truncate(length);
+    buffer
+}
+
+fn dump(transaction: u32, size: u32, address: u32) -> Vec<u8> {
+    packet(0, transaction, Command::Dump { size, address: Address(address) })
+}
+
+/// A packet that the writer would not write: a body of its own with right header and check byte.
+fn raw(code: u8, body: &[u8]) -> Vec<u8> {
+    let mut all = vec![0x1E, 0x44, 0xC0, 0, 0, (1 + body.len()) as u8, code, 0];
+    all.extend_from_slice(body);
+    all[7] = 0xFF ^ all.iter().fold(0, |a, b| a ^ b);
+    all
+}
+
+fn give(state: &mut State, packet: &[u8], image: &mut [u32]) -> u32 {
+    let mut reply = [0x5C; 40];
+    let before = state.clone();
+    let image_before = image.to_vec();
+    let answer = command_call(state, packet, image, &mut reply);
+    *state = answer.state;
+    if answer.reply_length == 0 {
+        assert_eq!(reply, [0x5C; 40]);
+    }
+    if answer.number == 0 {
+        assert_eq!(state.accepted, before.accepted + 1);
+    } else {
+        assert_eq!(image, image_before);
+        assert_eq!((state.accepted, state.places, state.last), (before.accepted, before.places, before.last));
+    }
+    answer.number
+}
+
+fn slot(state: &mut State, tick: u32, image: &[u32]) -> (u32, Vec<u8>) {
+    let mut buffer = vec![0x3D; 4_100];
+    let answer = slot_call(state, tick, image, &mut buffer);
+    *state = answer.state;
+    assert!(buffer[answer.length as usize..].iter().all(|&byte| byte == 0x3D));
+    buffer.truncate(answer.length as usize);
+    (answer.number, buffer)
+}
+
+#[test]
+fn e1_dump_command() {
+    let (mut state, mut image) = usual();
+    let written = dump(0x123, 2, 0x1004);
+    assert_eq!(written, bytes("1E 44 C0 00 00 09 00 78 21 23 00 02 00 00 10 04"));
+    assert_eq!(give(&mut state, &written, &mut image), 0);
+    assert_eq!(state.places[0], DumpPlace::Busy(Dump { transaction: 0x123, start: Address(0x1004), requested: 2, sent: 0 }));
+}
+
+#[test]
+fn e2_slot() {
+    let (mut state, mut image) = usual();
+    assert_eq!(give(&mut state, &dump(0x123, 2, 0x1004), &mut image), 0);
+    let (number, packet) = slot(&mut state, 5, &image);
+    assert_eq!(number, 0);
+    let expected = "03 14 C0 00 00 1D 21 23 00 00 00 05 00 00 10 04 00 00 00 02 00 00 10 04 00 00 00 02 22 22 22 22 33 33 33 33";
+    assert_eq!(packet, bytes(expected));
+    assert_eq!((state.last, state.count_788, state.places), (0, 1, [DumpPlace::Idle; 4]));
+    let before = state.clone();
+    assert_eq!(slot(&mut state, 6, &image), (16, vec![]));
+    assert_eq!(state, before);
+    let (fields, data) = read_packet(&packet).unwrap();
+    assert_eq!((fields.unit, fields.transaction, fields.tick, data), (2, 0x123, 5, &packet[28..]));
+}
+
+#[test]
+fn e3_load_command() {
+    let (mut state, mut image) = usual();
+    let mut data = [7; LOAD_WORDS];
+    data[0] = 0x01020304;
+    let written = packet(1, 0xABC, Command::Load { size: 1, address: Address(0x1000), data });
+    let mut expected = bytes("1E 44 C0 01 00 35 04 D6 2A BC 00 01 00 00 10 00 01 02 03 04");
+    expected.extend_from_slice(&[0; 40]);
+    assert_eq!(written, expected);
+    assert_eq!(give(&mut state, &written, &mut image), 0);
+    assert_eq!(image, [0x01020304, 0x22222222, 0x33333333, 0x44444444]);
+}
+
+#[test]
+fn e4_whole_region_and_one_more() {
+    let (mut state, mut image) = usual();
+    assert_eq!(give(&mut state, &dump(1, 4, 0x1000), &mut image), 0);
+    assert_eq!(give(&mut state, &dump(2, 5, 0x1000), &mut image), 10);
+    assert_eq!(state.refused, 1);
+}
+
+#[test]
+fn e5_e6_address_and_size() {
+    let (mut state, mut image) = usual();
+    assert_eq!(give(&mut state, &raw(0, &bytes("21 23 00 01 00 00 10 02")), &mut image), 9);
+    assert_eq!(give(&mut state, &raw(0, &bytes("21 23 00 00 00 00 10 00")), &mut image), 9);
+    let mut buffer = [0x77; 60];
+    let command = Command::Dump { size: 1, address: Address(0x1002) };
+    assert_eq!(write_command(&Fields { sequence: 0, unit: 2, transaction: 0x123, command }, &mut buffer), Err(9));
+    assert_eq!(buffer, [0x77; 60]);
+}
+
+#[test]
+fn e7_load_sizes() {
+    let mut state = started(&[(0x1000, 11, BOTH)], [(0, 0); 2]);
+    let mut image = vec![0; 11];
+    let data = [1, 2, 3, 4, 5, 6, 7, 8, 9, 10, 11];
+    assert_eq!(give(&mut state, &packet(0, 1, Command::Load { size: 11, address: Address(0x1000), data }), &mut image), 0);
+    assert_eq!(image, data);
+    let mut body = bytes("20 01 00 0C 00 00 10 00");
+    body.extend_from_slice(&[0; 44]);
+    assert_eq!(give(&mut state, &raw(4, &body), &mut image), 9);
+}
+
+#[test]
+fn e8_packets_of_a_dump() {
+    for (words, packets, last) in [(1_016, 1, 1_016), (1_017, 2, 1), (65_535, 65, 511)] {
+        let mut state = started(&[(0x1000, 65_535, BOTH)], [(0, 0); 2]);
+        let mut image: Vec<u32> = (0..65_535u32).map(|i| i.wrapping_mul(0x9E37_79B1)).collect();
+        assert_eq!(give(&mut state, &dump(9, words, 0x1000), &mut image), 0);
+        let mut joined = vec![];
+        let mut count = 0;
+        let mut words_last = 0;
+        loop {
+            let (number, packet) = slot(&mut state, count, &image);
+            if number == 16 {
+                break;
+            }
+            count += 1;
+            let (fields, data) = read_packet(&packet).unwrap();
+            words_last = fields.data_words;
+            joined.extend(data.chunks(4).map(|b| u32::from_be_bytes([b[0], b[1], b[2], b[3]])));
+        }
+        assert_eq!((count, words_last), (packets, last));
+        assert_eq!(joined, image[..words as usize]);
+    }
+    // The bound of 260 slots, with three others kept busy all the time.
+    let mut state = started(&[(0x1000, 65_535, BOTH)], [(0, 0); 2]);
+    let mut image = vec![0; 65_535];
+    for transaction in 0..4 {
+        assert_eq!(give(&mut state, &dump(transaction, 65_535, 0x1000), &mut image), 0);
+    }
+    let mut seen = 0;
+    for _ in 0..260 {
+        let (_, packet) = slot(&mut state, 0, &image);
+        seen += usize::from(packet[7] == 3);
+    }
+    assert_eq!(seen, 65);
+}
+
+#[test]
+fn e9_top_of_memory() {
+    let mut state = started(&[(0xFFFF_FFF0, 4, BOTH)], [(0, 0); 2]);
+    let mut image = vec![1, 2, 3, 4];
+    assert_eq!(give(&mut state, &dump(1, 1, 0xFFFF_FFFC), &mut image), 0);
+    assert_eq!(give(&mut state, &dump(2, 2, 0xFFFF_FFFC), &mut image), 10);
+    let (number, packet) = slot(&mut state, 0, &image);
+    assert_eq!((number, &packet[28..]), (0, &[0, 0, 0, 4][..]));
+}
+
+#[test]
+fn e10_touching_regions() {
+    let mut state = started(&[(0x1000, 4, BOTH), (0x1010, 4, BOTH)], [(0, 0); 2]);
+    let mut image = vec![0; 8];
+    assert_eq!(give(&mut state, &dump(1, 2, 0x100C), &mut image), 10);
+    assert_eq!(give(&mut state, &dump(1, 1, 0x100C), &mut image), 0);
+}
+
+#[test]
+fn e11_pool_statistics() {
+    let state = started(&[(0x1000, 6, BOTH)], [(0, 0), (0x1000, 6)]);
+    let mut image = vec![0x8000_0002, 5, 4, 5, 5, 5];
+    let written = packet(0, 0x123, Command::PoolStatistics { pool: 1 });
+    let mut reply = [0xEE; 35];
+    let answer = command_call(&state, &written, &mut image, &mut reply);
+    assert_eq!((answer.number, answer.reply_length, answer.state.count_785, answer.state.accepted), (0, 32, 1, 1));
+    let mut expected = bytes("03 11 C0 00 00 19 21 23 00 01 00 00");
+    for figure in [4u32, 1, 4, 2, 1] {
+        expected.extend_from_slice(&figure.to_be_bytes());
+    }
+    expected.extend_from_slice(&[0xEE; 3]);
+    assert_eq!(reply.to_vec(), expected);
+}
+
+#[test]
+fn e12_four_places() {
+    let (mut state, mut image) = usual();
+    for transaction in 0..4 {
+        assert_eq!(give(&mut state, &dump(transaction, 1, 0x1000), &mut image), 0);
+    }
+    assert_eq!(give(&mut state, &dump(4, 1, 0x1000), &mut image), 13);
+    assert_eq!(give(&mut state, &dump(2, 1, 0x1000), &mut image), 12);
+}
+
+#[test]
+fn start_up_refused() {
+    let (number, state) = start_up(&setup(&[], [(0, 0); 2]));
+    assert_eq!((number, &state), (17, &state_of_zero_regions()));
+    assert_eq!(state.last, 3);
+    let answer = command_call(&state, &[], &mut [], &mut []);
+    assert_eq!((answer.number, answer.state), (1, state));
+}
