@@ -1,5 +1,6 @@
 /* The C interface of the memory service (paper 01). Nothing is allocated and nothing is kept between calls: all state is in the block that
- * the caller lends. Lent buffers must not overlap. A pointer may be anything where its length is 0. Each call returns a result number. */
+ * the caller lends. Lent buffers must not overlap. A pointer may be anything where its length is 0; the pointer to a length that a call sets
+ * must always point to a word. Each call returns a result number. */
 #ifndef LEATGARNET_H
 #define LEATGARNET_H
 #include <stddef.h>

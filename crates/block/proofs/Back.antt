@@ -1,7 +1,7 @@
 -- The block of a state is one, and gives the state back.
 -- Assumes nothing.
 use mathlib.Core.Path.{_≡_, refl, ap, _∙_}
-use mathlib.Core.Bool.{Bool, true, false, _&&_}
+use mathlib.Core.Bool.{Bool, true, false}
 use mathlib.Core.List.{List, [], _∷_}
 use Prim.Native.Nat.{ℕ, _+_, _*_, _%_, _<_}
 use native.Mathlib.Omega.{arith}
@@ -10,7 +10,7 @@ use lib.ListN.{length}
 use lib.Seq.{take-all}
 use borrow.Author.Tests.{le-leb, eq-eqb}
 use Rattle.lists.proofs.Below.{all-of}
-use Rattle.rules.specs.Regions.{startOf, noRegion, regionAt}
+use Rattle.rules.specs.Regions.{noRegion, regionAt}
 use Rattle.rules.specs.States.{poolAt, contextAt, idlePlace}
 use Rattle.rules.specs.declared.Context.{Context}
 use Rattle.rules.specs.declared.Context.the-variants.{Idle, Busy}
@@ -20,7 +20,7 @@ use Rattle.rules.specs.declared.State.{State}
 use Rattle.block.specs.Blocks.{rightsWord, regionWords, contextWords, blockOf, word, regionIn, contextIn, placeIn, regionsIn, poolsIn, placesIn, stateOf, regionsBounds, placeBounds, isBlock}
 use Rattle.block.specs.RoundTrip.{ContextFits, Fits}
 use Rattle.block.proofs.Runs.{list-is}
-use Rattle.block.proofs.Writing.{block-length}
+use Rattle.block.proofs.Lengths.{block-length}
 use Rattle.block.proofs.Words.{count-word, region-word, pool-word, place-word, tail-word}
 
 -- RIGHTS

@@ -6,7 +6,7 @@ use mathlib.Core.List.{List, [], _∷_, _++_}
 use Prim.Native.Nat.{ℕ, zero, suc, _+_, _*_, _%_, _≤_, _<_, min}
 use native.Mathlib.Omega.{arith}
 use lib.Dec.{leb, eqb}
-use lib.ListN.{length, take}
+use lib.ListN.{take}
 use lib.Seq.{take-all}
 use borrow.Author.Tests.{leb-true, eqb-true}
 use Rattle.lists.proofs.Tests.{either, and-left, and-right}
@@ -15,9 +15,10 @@ use Rattle.rules.specs.Regions.{noRegion, regionAt}
 use Rattle.rules.specs.States.{contextAt, idlePlace}
 use Rattle.rules.specs.declared.Place.{Place}
 use Rattle.rules.specs.declared.Region.{Region}
-use Rattle.block.specs.Blocks.{rightsWord, regionWords, contextWords, regionsWords, poolsWords, placesWords, blockOf, word, regionIn, contextIn, placeIn, regionsIn, poolsIn, placesIn, stateOf, regionsBounds, placeBounds, placesBounds, isBlock}
+use Rattle.block.specs.Blocks.{rightsWord, regionWords, contextWords, regionsWords, poolsWords, placesWords, blockOf, word, regionIn, contextIn, placeIn, regionsIn, poolsIn, placesIn, stateOf, regionsBounds, placeBounds, isBlock}
 use Rattle.block.proofs.Runs.{list-at, front-more, front-runs}
-use Rattle.block.proofs.Steps.{Four, four-out, BlockBounds, block-out, context-words-length}
+use Rattle.block.proofs.Bounds.{Four, four-out, BlockBounds, block-out}
+use Rattle.block.proofs.Lengths.{context-words-length}
 
 rights-forth : (w : ℕ) → w ≤ 3 → rightsWord (eqb (w % 2) 1) (leb 2 w) ≡ w
 rights-forth zero h = refl

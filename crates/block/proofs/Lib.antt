@@ -1,6 +1,6 @@
 pub mod Runs
-pub mod Steps
-pub mod Writing
+pub mod Bounds
+pub mod Lengths
 pub mod Words
 pub mod Back
 pub mod Forth

@@ -1,4 +1,4 @@
--- Laws of lists put one after the other: length, elements, and one turn of a loop that makes or writes them.
+-- Laws of lists put one after the other: length, elements, and one turn of a loop that makes them.
 -- Assumes nothing.
 use mathlib.Core.Path.{_≡_, refl, sym, ap, _∙_}
 use mathlib.Core.Logic.{⊎-elim}
@@ -9,8 +9,6 @@ use native.Mathlib.Numerals.{add-one}
 use native.Mathlib.Omega.{arith}
 use lib.ListN.{length, getD, set, take, drop, replicate, length-append, length-take, length-drop, List·getD-append}
 use lib.Seq.{set-at, append-snoc, getD-append-add, getD-take, getD-drop, take-suc, take-add, ext-getD}
-use Rattle.lists.specs.Splice.{splice}
-use Rattle.lists.proofs.Runs.{splice-splice}
 use Rattle.block.specs.Runs.{runs}
 
 pub runs-more : {A : Type 0} (f : ℕ → List A) (i : ℕ) → runs f (i + 1) ≡ runs f i ++ f i
@@ -35,15 +33,6 @@ module _ {A : Type 0} (g : ℕ → A) (d : A) where
       let e : n - i ≡ suc (n - (i + 1)) = omega arith in
       let k : length (runs (λ k. g k ∷ []) i) ≡ i = runs-length (λ k. g k ∷ []) 1 (λ i. refl) i ∙ omega arith in
       rw (e, set-at (runs (λ k. g k ∷ []) i) d (replicate (n - (i + 1)) d) (g i) i k, runs-more (λ k. g k ∷ []) i, append-snoc)
-
--- LISTS OF w WORDS WRITTEN one after the other
-
-pub write-more : (l b b′ : List ℕ) (f : ℕ → List ℕ) (w at i : ℕ) → ((i : ℕ) → length (f i) ≡ w) → at + w * i + w ≤ length l
-    → b ≡ splice l at (runs f i) → b′ ≡ splice b (at + w * i) (f i) → b′ ≡ splice l at (runs f (i + 1))
-write-more l b b′ f w at i h room e e′ =
-    let n = runs-length f w h i in
-    let m = h i in
-    rw (e′, e, runs-more f i) (splice-splice l (runs f i) (f i) at (at + w * i) (omega arith) (omega arith))
 
 -- ELEMENTS
 

@@ -4,14 +4,13 @@ use mathlib.Core.Path.{_≡_, refl, ap, _∙_}
 use mathlib.Core.List.{List, [], _∷_, _++_}
 use Prim.Native.Nat.{ℕ, _+_, _*_, _<_, min}
 use native.Mathlib.Omega.{arith}
-use lib.ListN.{length, getD, length-append}
+use lib.ListN.{length, length-append}
 use Rattle.rules.specs.Regions.{regionAt}
 use Rattle.rules.specs.States.{contextAt}
 use Rattle.rules.specs.declared.State.{State}
 use Rattle.block.specs.Blocks.{regionWords, contextWords, regionsWords, poolsWords, placesWords, blockOf, word}
 use Rattle.block.proofs.Runs.{in-front, in-rest, runs-at}
-use Rattle.block.proofs.Steps.{context-words-length}
-use Rattle.block.proofs.Writing.{regions-words-length, places-words-length}
+use Rattle.block.proofs.Lengths.{context-words-length, regions-words-length, places-words-length}
 
 -- five lists of 1, 48, 5, 20 and 5 words
 module _ (h r m p t : List ℕ) (lh : length h ≡ 1) (lr : length r ≡ 48) (lm : length m ≡ 5) (lp : length p ≡ 20) where

@@ -1,12 +1,12 @@
 -- The state block and the table block of the C interface (c/leatgarnet.h): words of 32 bits.
-use mathlib.Core.Bool.{Bool, true, false, _&&_, _||_, cond}
+use mathlib.Core.Bool.{Bool, _&&_, _||_, cond}
 use mathlib.Core.List.{List, [], _∷_, _++_}
 use Prim.Native.Nat.{ℕ, _+_, _*_, _%_, min}
 use lib.Dec.{leb, eqb}
 use lib.ListN.{length, getD, replicate}
 use Rattle.lists.specs.Below.{allBelow}
-use Rattle.rules.specs.Regions.{startOf, noRange, noRegion, regionAt}
-use Rattle.rules.specs.States.{poolAt, idlePlace, noState}
+use Rattle.rules.specs.Regions.{startOf, regionAt}
+use Rattle.rules.specs.States.{poolAt, idlePlace}
 use Rattle.rules.specs.declared.Context.{Context}
 use Rattle.rules.specs.declared.Context.the-variants.{Idle, Busy}
 use Rattle.rules.specs.declared.Place.{Place}
@@ -14,8 +14,6 @@ use Rattle.rules.specs.declared.Range.{Range}
 use Rattle.rules.specs.declared.Region.{Region}
 use Rattle.rules.specs.declared.State.{State}
 use Rattle.block.specs.Runs.{runs}
-use Rattle.block.specs.declared.Unpacked.{Unpacked}
-use Rattle.block.specs.declared.Table.{Table}
 
 -- WRITTEN
 
@@ -54,10 +52,6 @@ blockOf s =
 
 abbrev pub stateWords : ℕ
 stateWords = 79
-
--- what packing leaves in a block: one of another length stays as it is
-unfoldable pub packed : State → List ℕ → List ℕ
-packed s b = cond (eqb (length b) stateWords) (blockOf s) b
 
 -- READ
 
@@ -127,9 +121,6 @@ countsBounds b =
 unfoldable pub isBlock : List ℕ → Bool
 isBlock b = eqb (length b) stateWords && (regionsBounds b 1 && leb (word b 53) 255 && placesBounds b && countsBounds b)
 
-unfoldable pub unpacked : List ℕ → Unpacked
-unpacked b = cond (isBlock b) (record { valid = true; state = stateOf b }) (record { valid = false; state = noState })
-
 -- THE TABLE BLOCK
 
 abbrev pub tableWords : ℕ
@@ -138,10 +129,3 @@ tableWords = 54
 -- 54 words, each in its bounds
 unfoldable pub isTable : List ℕ → Bool
 isTable b = eqb (length b) tableWords && (leb (word b 0) 255 && regionsBounds b 6)
-
--- unit, number of regions, two pools, sixteen regions; any other block is the table of no regions, which start-up refuses
-unfoldable pub tableOf : List ℕ → Table
-tableOf b =
-    cond (isTable b)
-    (record { unit = word b 0; count = word b 1; pools = poolsIn b 2; regions = regionsIn b 6 })
-    (record { unit = 0; count = 0; pools = replicate 2 noRange; regions = replicate 16 noRegion })

@@ -105,7 +105,9 @@ fn put_bytes(buffer: &mut [u8], from: &[u8])
 
 // A dump packet at the start of the buffer. Where it does not fit, nothing is written.
 pub fn put_packet(buffer: &mut [u8], f: DumpPacket, words: &[u32])
-    ensures { λ _. ⌜ (PacketFits f (now (words .entry)) (now (buffer .entry)) → now (buffer .exit) ≡ splice (now (buffer .entry)) 0 (dumpPacketBytes f (now (words .entry)))) ⌝ }
+    ensures { λ _. ⌜
+        (PacketFits f (now (words .entry)) (now (buffer .entry)) → now (buffer .exit) ≡ splice (now (buffer .entry)) 0 (dumpPacketBytes f (now (words .entry))))
+        × ((PacketFits f (now (words .entry)) (now (buffer .entry)) → ⊥) → now (buffer .exit) ≡ now (buffer .entry)) ⌝ }
 {
     if 16383 < f.header.count {
         return;
@@ -158,7 +160,9 @@ fn store_run(image: &mut [u32], at: usize, packet: &[u8], n: usize)
 
 // The first n words of a load packet's data, from index `at` of the image on. Where they do not fit, nothing is written.
 pub fn store_words(image: &mut [u32], at: usize, packet: &[u8], n: usize)
-    ensures { λ _. ⌜ (n ≤ 11 → at + n ≤ length (now (image .entry)) → now (image .exit) ≡ splice (now (image .entry)) at (take n (dataWords (now (packet .entry))))) ⌝ }
+    ensures { λ _. ⌜
+        (n ≤ 11 → at + n ≤ length (now (image .entry)) → now (image .exit) ≡ splice (now (image .entry)) at (take n (dataWords (now (packet .entry)))))
+        × ((n ≤ 11 → at + n ≤ length (now (image .entry)) → ⊥) → now (image .exit) ≡ now (image .entry)) ⌝ }
 {
     if 11 < n {
         return;

@@ -2,18 +2,17 @@
 -- Assumes nothing.
 use mathlib.Core.Path.{_≡_, refl, sym, ap, _∙_}
 use mathlib.Core.Logic.{_≢_}
-use mathlib.Core.List.{List, [], _∷_, _++_, append-nil}
+use mathlib.Core.List.{List, _++_}
 use Prim.Native.Nat.{ℕ, _+_, _*_, _≤_}
 use native.Mathlib.Omega.{arith}
-use lib.ListN.{length, getD, length-drop, length-append}
-use lib.Seq.{drop-length}
+use lib.ListN.{length, length-drop, length-append}
 use borrow.Author.Tests.{eq-eqb, ne-eqb}
 use Rattle.lists.specs.Splice.{splice}
 use Rattle.lists.proofs.Runs.{splice-splice}
 use Rattle.lists.proofs.Splice.{splice-length}
 use Rattle.wire.proofs.Words.{words-at-length}
 use Rattle.rules.specs.Ground.{readerRows, packetRows, wordsBeside, fieldsRead, concludeRead, readCommand, concludePacket, readPacket, packetFields, packetNumber}
-use Rattle.rules.specs.Packets.{codeOf, decode}
+use Rattle.rules.specs.Packets.{decode}
 use Rattle.rules.specs.Results.{number, lowest}
 use Rattle.rules.specs.States.{pieceWords}
 use Rattle.rules.specs.declared.Command.{Command}
@@ -30,12 +29,9 @@ use Rattle.rules.specs.declared.Telecommand.{Telecommand}
 use Rattle.rules.specs.declared.Verdict.{Verdict}
 use Rattle.rules.specs.declared.Verdict.the-variants.{Accepted, Rejected}
 use Rattle.rules.proofs.PacketTests.{packet-out, packet-in}
-use Rattle.capi.specs.Commands.{bodyWords, headWords, lgReadCommand, fieldWords, lgReadPacket}
-
--- a write of all words of a list
-splice-all : (l v : List ℕ) → length v ≡ length l → splice l 0 v ≡ v
-unfolding splice
-splice-all l v e = let k : 0 + length v ≡ length l = omega arith in rw (k, drop-length) (append-nil v)
+use Rattle.pack.proofs.Writing.{splice-all}
+use Rattle.ground_blocks.specs.Fields.{bodyWords, headWords, fieldWords}
+use Rattle.capi.specs.Commands.{lgReadCommand, lgReadPacket}
 
 -- THE COMMAND READER
 
@@ -44,18 +40,6 @@ body-length (Dump q) = refl
 body-length Cancel = refl
 body-length (Load q) = refl
 body-length (PoolStatistics i) = refl
-
-three-words : (k : Command) → (getD (bodyWords k) 0 0 ∷ getD (bodyWords k) 1 0 ∷ getD (bodyWords k) 2 0 ∷ []) ≡ bodyWords k
-three-words (Dump q) = refl
-three-words Cancel = refl
-three-words (Load q) = refl
-three-words (PoolStatistics i) = refl
-
-pub head-is : (f : Telecommand) (code : ℕ) → code ≡ codeOf (f .command) → (body : List ℕ) → body ≡ bodyWords (f .command)
-    → (code ∷ f .header .count ∷ f .header .unit ∷ f .header .transaction ∷ getD body 0 0 ∷ getD body 1 0 ∷ getD body 2 0 ∷ []) ≡ headWords f
-head-is f code ec body eb =
-    rw (ec, eb)
-    (ap (λ (v : List ℕ). codeOf (f .command) ∷ f .header .count ∷ f .header .unit ∷ f .header .transaction ∷ v) (three-words (f .command)))
 
 -- the data words are eleven
 module _ (p : List ℕ) where

@@ -26,9 +26,11 @@ use Rattle.rules.specs.declared.State.{State}
 use Rattle.rules.specs.declared.Verdict.{Verdict}
 use Rattle.rules.specs.declared.Verdict.the-variants.{Accepted, Rejected}
 use Rattle.rules.proofs.Fits.{packet-length, next-most}
-use Rattle.block.specs.Blocks.{blockOf, isBlock, stateOf, packed, unpacked, tableOf}
-use Rattle.block.specs.declared.Table.{Table}
-use Rattle.block.specs.declared.Unpacked.{Unpacked}
+use Rattle.block.specs.Blocks.{blockOf, isBlock, stateOf}
+use Rattle.unpack.specs.Unpacking.{unpacked, tableOf}
+use Rattle.unpack.specs.declared.Table.{Table}
+use Rattle.unpack.specs.declared.Unpacked.{Unpacked}
+use Rattle.pack.specs.Packing.{packed}
 use Rattle.capi.specs.Calls.{lgStartUp, onState}
 
 -- A STATE PACKED where the block has 79 words

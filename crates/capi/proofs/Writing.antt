@@ -18,7 +18,8 @@ use Rattle.rules.specs.declared.Decoded.the-variants.{Unknown, Known}
 use Rattle.rules.specs.declared.Header.{Header}
 use Rattle.rules.specs.declared.Verdict.{Verdict}
 use Rattle.rules.specs.declared.Verdict.the-variants.{Accepted, Rejected}
-use Rattle.capi.specs.Commands.{headerIn, commandIn, dataIn, lgWriteCommand}
+use Rattle.ground_blocks.specs.Fields.{headerIn, commandIn, dataIn}
+use Rattle.capi.specs.Commands.{lgWriteCommand}
 
 -- a command's packet has at most 60 bytes
 packet-most : (k : Command) → packetLength k ≤ 60

@@ -10,8 +10,9 @@ use Rattle.rules.specs.Slots.{slotCall}
 use Rattle.rules.specs.States.{startUp}
 use Rattle.rules.specs.declared.Started.{Started}
 use Rattle.rules.specs.declared.State.{State}
-use Rattle.block.specs.Blocks.{stateWords, tableWords, blockOf, isBlock, stateOf, tableOf}
-use Rattle.block.specs.declared.Table.{Table}
+use Rattle.block.specs.Blocks.{stateWords, blockOf, isBlock, stateOf, tableWords}
+use Rattle.unpack.specs.Unpacking.{tableOf}
+use Rattle.unpack.specs.declared.Table.{Table}
 
 -- START-UP
 

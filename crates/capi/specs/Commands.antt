@@ -1,27 +1,18 @@
--- The command block and the dump packet block of the C interface (c/leatgarnet.h), and what the writer and the readers leave.
+-- What the command writer and the two readers of the C interface (c/leatgarnet.h) leave: the number, the lent block or buffer, and the bytes.
 use mathlib.Core.Bool.{cond}
-use mathlib.Core.List.{List, [], _∷_, _++_}
-use Prim.Native.Nat.{ℕ, _+_, min}
-use lib.Dec.{leb, eqb}
+use mathlib.Core.List.{List, _++_}
+use Prim.Native.Nat.{ℕ}
+use lib.Dec.{eqb}
 use lib.ListN.{length}
 use Rattle.rules.specs.Ground.{Wrote, writeCommand, readCommand, readingNumber, readPacket, packetNumber}
-use Rattle.rules.specs.Packets.{codeOf}
-use Rattle.rules.specs.Regions.{startOf}
 use Rattle.rules.specs.Results.{answerNumber, answerLength}
-use Rattle.rules.specs.declared.Command.{Command}
-use Rattle.rules.specs.declared.Command.the-variants.{Dump, Cancel, Load, PoolStatistics}
 use Rattle.rules.specs.declared.Decoded.{Decoded}
 use Rattle.rules.specs.declared.Decoded.the-variants.{Unknown, Known}
-use Rattle.rules.specs.declared.DumpPacket.{DumpPacket}
-use Rattle.rules.specs.declared.Header.{Header}
 use Rattle.rules.specs.declared.PacketReading.{PacketReading}
 use Rattle.rules.specs.declared.PacketReading.the-variants.{NoPacket, Packet}
 use Rattle.rules.specs.declared.Reading.{Reading}
 use Rattle.rules.specs.declared.Reading.the-variants.{Unread, Read}
-use Rattle.rules.specs.declared.Request.{Request}
-use Rattle.rules.specs.declared.Telecommand.{Telecommand}
-use Rattle.block.specs.Blocks.{word}
-use Rattle.block.specs.Runs.{runs}
+use Rattle.ground_blocks.specs.Fields.{headerIn, commandIn, dataIn, headWords, fieldWords}
 
 abbrev pub commandWords : ℕ
 commandWords = 18
@@ -30,29 +21,6 @@ abbrev pub packetWords : ℕ
 packetWords = 8
 
 -- A COMMAND BLOCK WRITTEN AS A PACKET
-
--- sequence count, unit, transaction: a number beyond its type stands as the type's greatest, which is out of the field's bounds too
-abbrev pub headerIn : List ℕ → Header
-headerIn b = record { count = min 65535 (word b 1); unit = min 255 (word b 2); transaction = min 65535 (word b 3) }
-
--- a size beyond 16 bits stands as 0, which is out of bounds too
-abbrev pub sizeIn : ℕ → ℕ
-sizeIn w = cond (leb w 65535) w 0
-
-abbrev pub requestIn : List ℕ → Request
-requestIn b = record { size = sizeIn (word b 4); address = record { 0 = word b 5 } }
-
--- the command by the function code
-unfoldable pub commandIn : List ℕ → Decoded
-commandIn b =
-    cond (eqb (word b 0) 0) (Known (Dump (requestIn b)))
-    (cond (eqb (word b 0) 1) (Known Cancel)
-    (cond (eqb (word b 0) 4) (Known (Load (requestIn b)))
-    (cond (eqb (word b 0) 7) (Known (PoolStatistics (min 65535 (word b 6)))) Unknown)))
-
--- the eleven data words
-abbrev pub dataIn : List ℕ → List ℕ
-dataIn b = runs (λ k. word b (7 + k) ∷ []) 11
 
 pub record WriteLeft : Type 0 where
   pub number : ℕ
@@ -73,18 +41,6 @@ lgWriteCommand b buffer =
 
 -- A PACKET READ INTO A COMMAND BLOCK
 
--- size, address and pool; what a code does not use is 0
-abbrev pub bodyWords : Command → List ℕ
-bodyWords (Dump q) = q .size ∷ q .address .0 ∷ 0 ∷ []
-bodyWords Cancel = 0 ∷ 0 ∷ 0 ∷ []
-bodyWords (Load q) = q .size ∷ q .address .0 ∷ 0 ∷ []
-bodyWords (PoolStatistics i) = 0 ∷ 0 ∷ i ∷ []
-
--- function code, sequence count, unit, transaction, and the body
-abbrev pub headWords : Telecommand → List ℕ
-headWords f =
-    codeOf (f .command) ∷ f .header .count ∷ f .header .unit ∷ f .header .transaction ∷ bodyWords (f .command)
-
 pub record ReadLeft : Type 0 where
   pub number : ℕ
   pub block : List ℕ
@@ -102,11 +58,6 @@ lgReadCommand p b =
     (record { number = 3; block = b })
 
 -- A DUMP PACKET READ
-
--- sequence count, unit, transaction, tick, requested address, requested words, address of this packet's data, words in this packet
-abbrev pub fieldWords : DumpPacket → List ℕ
-fieldWords f =
-    f .header .count ∷ f .header .unit ∷ f .header .transaction ∷ f .tick ∷ startOf (f .range) ∷ f .range .words ∷ f .here .0 ∷ f .words ∷ []
 
 abbrev pub packetBlock : List ℕ → PacketReading → List ℕ
 packetBlock b (NoPacket r) = b

@@ -24,16 +24,22 @@ pub then-figure : (l : List ℕ) {m n : List ℕ} (i : ℕ) (vs : List ℕ) (x :
     → n ≡ sets l i (vs ++ be 4 x)
 then-figure l {m} i vs x p q = then-sets l i vs (be 4 x) p (q ∙ ap (sets m (i + length vs)) (be-modulo 4 x))
 
--- the three parts stored one after the other are the reply, where each number fits its field
-pub reply-put : (l : List ℕ) {k m n : List ℕ} (count unit transaction pool : ℕ) (f : Figures) → k ≡ sets l 0 (replyHeader (count % 16384))
-    → m ≡ sets k 6 (replySubject (unit % 16) (transaction % 4096) pool) → n ≡ sets m 12 (replyFigures f)
-    → replyLength ≤ length l → count ≤ 16383 → unit ≤ 15 → transaction ≤ 4095 → n ≡ splice l 0 (figureBytes count unit transaction pool f)
+-- the three parts stored one after the other are the reply
+pub reply-put : (l : List ℕ) {k m n : List ℕ} (count unit transaction pool : ℕ) (f : Figures) → k ≡ sets l 0 (replyHeader count)
+    → m ≡ sets k 6 (replySubject unit transaction pool) → n ≡ sets m 12 (replyFigures f) → n ≡ sets l 0 (figureBytes count unit transaction pool f)
 unfolding figureBytes
-reply-put l count unit transaction pool f p q r room c u t =
+reply-put l count unit transaction pool f p q r =
+    let header : List ℕ = replyHeader count in
+    let subject : List ℕ = replySubject unit transaction pool in
+    then-sets l 0 (header ++ subject) (replyFigures f) (then-sets l 0 header subject p q) r
+
+-- in a buffer that has room, where each number fits its field
+pub reply-fits : (l : List ℕ) {n : List ℕ} (count unit transaction pool : ℕ) (f : Figures)
+    → n ≡ sets l 0 (figureBytes (count % 16384) (unit % 16) (transaction % 4096) pool f) → replyLength ≤ length l → count ≤ 16383 → unit ≤ 15
+    → transaction ≤ 4095 → n ≡ splice l 0 (figureBytes count unit transaction pool f)
+unfolding figureBytes
+reply-fits l count unit transaction pool f e room c u t =
     let ec : count % 16384 ≡ count = omega arith in
     let eu : unit % 16 ≡ unit = omega arith in
     let et : transaction % 4096 ≡ transaction = omega arith in
-    let header : List ℕ = replyHeader count in
-    let subject : List ℕ = replySubject unit transaction pool in
-    then-sets l 0 (header ++ subject) (replyFigures f) (then-sets l 0 header subject (rw ec at p) (rw (eu, et) at q)) r
-    ∙ sets-splice (figureBytes count unit transaction pool f) l 0 room
+    rw (ec, eu, et) at e ∙ sets-splice (figureBytes count unit transaction pool f) l 0 room

@@ -1,10 +1,9 @@
 // The walk over a pool's blocks, and the bytes of the reply that tells its figures.
 ghost use mathlib.Core.Path.{_≡_};
+ghost use mathlib.Core.Bool.{cond};
 ghost use Prim.Native.Nat.{_+_, _%_, _≤_, _<_};
-ghost use lib.ListN.{length};
 ghost use lib.Seq.{sets};
-ghost use Rattle.lists.specs.Splice.{splice};
-ghost use Rattle.rules.specs.Pools.{blockOf, blocksOf, replyLength};
+ghost use Rattle.rules.specs.Pools.{blockOf, blocksOf};
 ghost use Rattle.pool.specs.Answers.{counted, walkedOf, replyHeader, replySubject, replyFigures, figureBytes};
 use wire::put16;
 use wire::put32;
@@ -23,32 +22,34 @@ pub enum Walked {
     Whole(Figures),
 }
 
+// n or 0. A block is used or free by chance, so that a branch here would be guessed wrong half the time; this compiles to none.
+fn picked(taken: bool, n: usize) -> usize
+    ensures { λ r. ⌜ (r ≡ cond taken n 0) × (r ≤ n) ⌝ }
+{
+    if taken { n } else { 0 }
+}
+
 // The figures with the block that begins with word `w`. The sums are at most the words passed, so they fit.
 fn count_block(f: Figures, w: u32) -> Figures
     requires { ⌜ (f .free + f .used + blockOf w .size < 18446744073709551616) × (f .freeblocks + f .usedblocks + 1 < 18446744073709551616) ⌝ }
     ensures { λ r. ⌜ r ≡ counted f (blockOf w) ⌝ }
 {
     let size = (w % 2147483648) as usize;
-    if w < 2147483648 {
-        let mut largest = f.largest;
-        if largest < size {
-            largest = size;
-        }
-        Figures {
-            free: f.free + size,
-            freeblocks: f.freeblocks + 1,
-            largest: largest,
-            used: f.used,
-            usedblocks: f.usedblocks,
-        }
-    } else {
-        Figures {
-            free: f.free,
-            freeblocks: f.freeblocks,
-            largest: f.largest,
-            used: f.used + size,
-            usedblocks: f.usedblocks + 1,
-        }
+    let used = 2147483648 <= w;
+    let freesize = picked(!used, size);
+    let freeone = picked(!used, 1);
+    let usedsize = picked(used, size);
+    let usedone = picked(used, 1);
+    let mut largest = f.largest;
+    if largest < freesize {
+        largest = freesize;
+    }
+    Figures {
+        free: f.free + freesize,
+        freeblocks: f.freeblocks + freeone,
+        largest: largest,
+        used: f.used + usedsize,
+        usedblocks: f.usedblocks + usedone,
     }
 }
 
@@ -107,12 +108,9 @@ fn put_figures(reply: &mut [u8], f: Figures)
     put32(reply, 28, (f.usedblocks % 4294967296) as u32);
 }
 
-// The reply in a buffer of at least 32 bytes.
+// The reply at the start of the buffer, each number cut to its field. Of a shorter buffer the bytes that it has are written.
 pub fn put_reply(reply: &mut [u8], count: u16, unit: u8, transaction: u16, pool: u16, f: Figures)
-    ensures { λ _. ⌜
-        (replyLength ≤ length (now (reply .entry)) → count ≤ 16383 → unit ≤ 15 → transaction ≤ 4095
-        → now (reply .exit) ≡ splice (now (reply .entry)) 0 (figureBytes count unit transaction pool f))
-        ⌝ }
+    ensures { λ _. ⌜ now (reply .exit) ≡ sets (now (reply .entry)) 0 (figureBytes (count % 16384) (unit % 16) (transaction % 4096) pool f) ⌝ }
 {
     put_header(reply, count);
     put_subject(reply, unit, transaction, pool);

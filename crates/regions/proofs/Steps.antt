@@ -15,6 +15,7 @@ use Rattle.lists.proofs.Below.{any-first, sum-past}
 use Rattle.rules.specs.Regions.{startOf, noRegion, rangeAt, regionRules, tableRules, anyRight, holds, inOneRegion, wordsBelow, imageLength, regionOf, imageIndex}
 use Rattle.rules.proofs.Table.{region-holds}
 use Rattle.regions.specs.Lookup.{findRegion}
+use Rattle.regions.specs.declared.Found.{Found}
 use Rattle.regions.specs.declared.Found.the-variants.{Nowhere, At}
 use Rattle.rules.specs.declared.Range.{Range}
 use Rattle.rules.specs.declared.Region.{Region}
@@ -32,16 +33,10 @@ table-tested rs n m em all ea =
 
 -- THE LOOKUP
 
-module _ (right : Region → Bool) (rs : List Region) (n m : ℕ) (a : Range) (em : m ≡ min n 16) (k : ℕ) (ek : k ≡ firstBelow (holds right rs a) m) (h : n ≤ 16) where
-  all-entries : m ≡ n
-  all-entries = em ∙ min-eq-left {n = n} {m = 16} h
-
-  first-of-all : k ≡ firstBelow (holds right rs a) n
-  first-of-all = ek ∙ ap (firstBelow (holds right rs a)) all-entries
-
-  pub one-tested : ltb k m ≡ inOneRegion right rs n a
-  unfolding inOneRegion
-  one-tested = rw (first-of-all, all-entries) (sym (any-first (holds right rs a) n))
+pub one-tested : (right : Region → Bool) (rs : List Region) (n m : ℕ) (a : Range) → m ≡ min n 16 → (k : ℕ) → k ≡ firstBelow (holds right rs a) m
+    → ltb k m ≡ inOneRegion right rs (min n 16) a
+unfolding inOneRegion
+one-tested right rs n m a em k ek = rw (← em, ek) (sym (any-first (holds right rs a) m))
 
 -- what the lookup finds starts at or before the range
 pub found-start : (rs : List Region) (m : ℕ) (a : Range) (k : ℕ) → k ≡ firstBelow (holds anyRight rs a) m → k < m → startOf (rangeAt rs k) ≤ startOf a
@@ -51,15 +46,22 @@ found-start rs m a k ek l =
     rw ek (region-holds rs m a one .from)
 
 module _ (rs : List Region) (n m : ℕ) (a : Range) (em : m ≡ min n 16) (k : ℕ) (ek : k ≡ firstBelow (holds anyRight rs a) m) where
-  pub found-nowhere : m ≤ k → n ≤ 16 → Nowhere ≡ findRegion rs n a
+  pub found-nowhere : m ≤ k → Nowhere ≡ findRegion rs (min n 16) a
   unfolding findRegion
-  found-nowhere l h = rw (← one-tested anyRight rs n m a em k ek h, le-ltb k m l)
+  found-nowhere l = rw (← one-tested anyRight rs n m a em k ek, le-ltb k m l)
 
-  pub found-at : k < m → (base : ℕ) → base ≡ wordsBelow rs k → n ≤ 16
-      → At (record { region = k; index = record { 0 = base + (startOf a - startOf (rangeAt rs k)) / 4 } }) ≡ findRegion rs n a
+  pub found-at : k < m → (base : ℕ) → base ≡ wordsBelow rs k
+      → At (record { region = k; index = record { 0 = base + (startOf a - startOf (rangeAt rs k)) / 4 } }) ≡ findRegion rs (min n 16) a
   unfolding findRegion regionOf imageIndex
-  found-at l base eb h =
-      rw (← one-tested anyRight rs n m a em k ek h, lt-ltb k m l, ← first-of-all anyRight rs n m a em k ek h, eb)
+  found-at l base eb = rw (← one-tested anyRight rs n m a em k ek, lt-ltb k m l, ← em, ← ek, eb)
+
+-- the entries that are looked at are all, where there are no more than sixteen
+module _ (rs : List Region) (n : ℕ) (a : Range) where
+  pub one-of-all : (right : Region → Bool) {b : Bool} → b ≡ inOneRegion right rs (min n 16) a → n ≤ 16 → b ≡ inOneRegion right rs n a
+  one-of-all right e h = rw (min-eq-left {n = n} {m = 16} h) at e
+
+  pub found-of-all : {f : Found} → f ≡ findRegion rs (min n 16) a → n ≤ 16 → f ≡ findRegion rs n a
+  found-of-all e h = rw (min-eq-left {n = n} {m = 16} h) at e
 
 -- THE IMAGE
 

@@ -115,9 +115,9 @@ fn first_holding(rs: [Region; 16], m: usize, a: Range, right: Right) -> usize
     i
 }
 
-// Whether one of the first n regions holds the range whole and has the right.
+// Whether one of the first n regions, and no more than there are, holds the range whole and has the right.
 pub fn in_one_region(rs: [Region; 16], n: usize, a: Range, right: Right) -> bool
-    ensures { λ b. ⌜ (n ≤ 16 → b ≡ inOneRegion (rightOf right) rs n a) ⌝ }
+    ensures { λ b. ⌜ b ≡ inOneRegion (rightOf right) rs (min n 16) a ⌝ }
 {
     let m = entries(n);
     first_holding(rs, m, a, right) < m
@@ -148,7 +148,7 @@ pub fn image_length(rs: [Region; 16], n: usize) -> usize
 
 // The region that holds the range whole, and where the range begins in the image. No other code turns an address into a word's index.
 pub fn find_region(rs: [Region; 16], n: usize, a: Range) -> Found
-    ensures { λ f. ⌜ (n ≤ 16 → f ≡ findRegion rs n a) ⌝ }
+    ensures { λ f. ⌜ f ≡ findRegion rs (min n 16) a ⌝ }
 {
     let m = entries(n);
     let k = first_holding(rs, m, a, Right::Any);

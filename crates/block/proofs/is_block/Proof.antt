@@ -1,6 +1,6 @@
 -- `block::is_block` meets its contract.
 -- Assumes nothing.
-use Rattle.block.proofs.Steps.{not-block, block-tested}
+use Rattle.block.proofs.Bounds.{not-block, block-tested}
 use borrow.Author.Needs.{needs}
 use Rattle.block.proofs.is_block.Statement.{statement}
 use Rattle.block.proofs.is_block.Tie as tie

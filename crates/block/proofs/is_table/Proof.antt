@@ -1,6 +1,6 @@
 -- `block::is_table` meets its contract.
 -- Assumes nothing.
-use Rattle.block.proofs.Steps.{not-table, table-tested}
+use Rattle.block.proofs.Bounds.{not-table, table-tested}
 use borrow.Author.Needs.{needs}
 use Rattle.block.proofs.is_table.Statement.{statement}
 use Rattle.block.proofs.is_table.Tie as tie

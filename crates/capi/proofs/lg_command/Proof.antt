@@ -2,7 +2,7 @@
 -- Assumes nothing.
 use Rattle.rules.specs.Commands.{Outcome, commandCall}
 use Rattle.rules.specs.declared.State.{State}
-use Rattle.block.proofs.Steps.{block-out}
+use Rattle.block.proofs.Bounds.{block-out}
 use Rattle.capi.proofs.Steps.{is-state, no-state, state-is, nothing-done, handed-over, buffer-left, image-left, command-fits}
 use borrow.Author.Needs.{needs}
 use Rattle.capi.proofs.lg_command.Statement.{statement}

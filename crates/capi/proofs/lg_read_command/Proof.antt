@@ -48,7 +48,7 @@ returns-3 c =
     let at-head = at-first .before .before .before in
     let at-reading = at-head .before .before in
     let at-read = at-reading .before .before .before in
-    command-done _ _ (at-read .before .if1 .left) _ (at-read .read-command .ensures) _ (at-reading .reading2 .given .1) _ (at-head .head-words .ensures) _ (at-first .put-words .ensures) _ (at-second .put-words2 .ensures)
+    command-done _ _ (at-read .before .if1 .left) _ (at-read .read-command .ensures) _ (at-reading .reading2 .given .1) _ (at-head .head-words .ensures) _ (at-first .put-words .ensures .0) _ (at-second .put-words2 .ensures .0)
 
 pub lg-read-command-spec : {M : Type 1} → statement M
 lg-read-command-spec =

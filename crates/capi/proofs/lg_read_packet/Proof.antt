@@ -48,7 +48,7 @@ returns-3 c =
     let at-words = at-put .before .before .before in
     let at-reading = at-words .before .before in
     let at-read = at-reading .before .before in
-    packet-done _ _ (at-read .before .if1 .left) _ (at-read .read-packet .ensures) _ (at-reading .reading2 .given .1) _ (at-words .field-words .ensures) _ (at-put .put-words .ensures)
+    packet-done _ _ (at-read .before .if1 .left) _ (at-read .read-packet .ensures) _ (at-reading .reading2 .given .1) _ (at-words .field-words .ensures) _ (at-put .put-words .ensures .0)
 
 pub lg-read-packet-spec : {M : Type 1} → statement M
 lg-read-packet-spec =

@@ -1,7 +1,7 @@
 -- `capi::lg_slot` meets its contract.
 -- Assumes nothing.
 use Rattle.rules.specs.Slots.{slotCall}
-use Rattle.block.proofs.Steps.{block-out}
+use Rattle.block.proofs.Bounds.{block-out}
 use Rattle.capi.proofs.Steps.{is-state, no-state, state-is, nothing-done, handed-over, buffer-left, slot-fits}
 use Rattle.rules.specs.Commands.{Outcome}
 use Rattle.rules.specs.declared.State.{State}

@@ -50,7 +50,7 @@ returns-2 c =
     let at-target = at-spot .before .before in
     let eq = at-target .before .request-of .ensures in
     let h = sym (at-target .load-target .ensures _ bytes o code eq) ∙ at-spot .target2 .given .1 in
-    load-done _ _ o code _ eq _ h _ (at-store .store-words .ensures) _ (c .accepted .ensures)
+    load-done _ _ o code _ eq _ h _ (at-store .store-words .ensures .0) _ (c .accepted .ensures)
 
 pub load-spec : {M : Type 1} → statement M
 load-spec =

@@ -2,6 +2,7 @@
 -- Assumes nothing.
 use mathlib.Core.Path.{sym, _∙_}
 use Rattle.command.proofs.Lookup.{no-frame, nowhere, somewhere}
+use Rattle.regions.proofs.Steps.{found-of-all}
 use borrow.Author.Needs.{needs}
 use Rattle.command.proofs.locate.Statement.{statement}
 use Rattle.command.proofs.locate.Tie as tie
@@ -35,7 +36,7 @@ returns-2 c =
     let at-right = at-found .before .before in
     let at-frame = at-right .before .before in
     let f = sym (at-frame .frame-verdict .ensures) ∙ at-right .enum-told .given .1 in
-    nowhere _ _ _ _ (at-frame .before .before .pre) f _ (at-found .find-region .ensures) (c .enum-told2 .given .1)
+    nowhere _ _ _ _ (at-frame .before .before .pre) f _ (found-of-all _ _ _ (at-found .find-region .ensures)) (c .enum-told2 .given .1)
 
 returns-3 : tie.Need-returns-3
 returns-3 c =
@@ -44,7 +45,7 @@ returns-3 c =
     let at-right = at-found .before .before in
     let at-frame = at-right .before .before in
     let f = sym (at-frame .frame-verdict .ensures) ∙ at-right .enum-told .given .1 in
-    somewhere _ _ _ _ (at-frame .before .before .pre) f _ (at-found .find-region .ensures) (at-spot .found .given .1)
+    somewhere _ _ _ _ (at-frame .before .before .pre) f _ (found-of-all _ _ _ (at-found .find-region .ensures)) (at-spot .found .given .1)
 
 pub locate-spec : {M : Type 1} → statement M
 locate-spec =

@@ -1,6 +1,7 @@
 -- `command::pool_statistics` meets its contract.
 -- Assumes nothing.
 use mathlib.Core.Path.{sym, _∙_}
+use Rattle.pool.proofs.ReplyBytes.{reply-fits}
 use Rattle.command.proofs.Outcomes.{pool-refused, pool-done}
 use borrow.Author.Needs.{needs}
 use Rattle.command.proofs.pool_statistics.Statement.{statement}
@@ -60,7 +61,7 @@ returns-2 c =
     let at-counting = at-figures .before .before in
     let ei = at-counting .before .get16 .ensures in
     let h = sym (at-counting .pool-counting .ensures _ o code ei) ∙ at-figures .counting2 .given .1 in
-    pool-done _ _ o code _ ei _ h _ (at-transaction .transaction-of .ensures) _ (at-put .put-reply .ensures) _ (c .accepted .ensures)
+    pool-done _ _ o code _ ei _ h _ (at-transaction .transaction-of .ensures) _ (reply-fits _ _ _ _ _ _ (at-put .put-reply .ensures)) _ (c .accepted .ensures)
 
 pub pool-statistics-spec : {M : Type 1} → statement M
 pool-statistics-spec =

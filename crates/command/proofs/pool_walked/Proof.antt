@@ -2,6 +2,7 @@
 -- Assumes nothing.
 use native.Mathlib.Omega.{arith}
 use Rattle.command.proofs.PoolTests.{never-nowhere, pool-fits, pool-part}
+use Rattle.regions.proofs.Steps.{found-of-all}
 use borrow.Author.Needs.{needs}
 use Rattle.command.proofs.pool_walked.Statement.{statement}
 use Rattle.command.proofs.pool_walked.Tie as tie
@@ -23,7 +24,7 @@ add-to c =
     let at-spot = c .before .before in
     let at-found = at-spot .before .before in
     let start = at-found .before .before .before in
-    let fits = pool-fits _ _ (start .args .image .now) (start .pre) _ (at-found .find-region .ensures) _ (at-spot .found .given .1) in
+    let fits = pool-fits _ _ (start .args .image .now) (start .pre) _ (found-of-all _ _ _ (at-found .find-region .ensures)) _ (at-spot .found .given .1) in
     omega (arith, start .good)
 
 mul-walk-pool : tie.Need-mul-walk-pool
@@ -31,7 +32,7 @@ mul-walk-pool c =
     let at-spot = c .before .before in
     let at-found = at-spot .before .before in
     let start = at-found .before .before .before in
-    let fits = pool-fits _ _ (start .args .image .now) (start .pre) _ (at-found .find-region .ensures) _ (at-spot .found .given .1) in
+    let fits = pool-fits _ _ (start .args .image .now) (start .pre) _ (found-of-all _ _ _ (at-found .find-region .ensures)) _ (at-spot .found .given .1) in
     omega (arith, start .good)
 
 sub-walk-pool : tie.Need-sub-walk-pool
@@ -45,7 +46,7 @@ part-walk-pool-end c =
     let at-spot = c .before .before in
     let at-found = at-spot .before .before in
     let start = at-found .before .before .before in
-    let fits = pool-fits _ _ (start .args .image .now) (start .pre) _ (at-found .find-region .ensures) _ (at-spot .found .given .1) in
+    let fits = pool-fits _ _ (start .args .image .now) (start .pre) _ (found-of-all _ _ _ (at-found .find-region .ensures)) _ (at-spot .found .given .1) in
     omega (arith, start .good)
 
 walk-pool-requires : tie.Need-walk-pool-requires
@@ -55,14 +56,14 @@ returns : tie.Need-returns
 returns c =
     let at-found = c .before .before in
     let start = at-found .before .before .before in
-    absurd (never-nowhere _ _ (start .args .image .now) (start .pre) _ (at-found .find-region .ensures) (c .enum-told .given .1))
+    absurd (never-nowhere _ _ (start .args .image .now) (start .pre) _ (found-of-all _ _ _ (at-found .find-region .ensures)) (c .enum-told .given .1))
 
 returns-2 : tie.Need-returns-2
 returns-2 c =
     let at-spot = c .before .before .before .before in
     let at-found = at-spot .before .before in
     let start = at-found .before .before .before in
-    pool-part _ _ (start .args .image .now) (start .pre) _ (at-found .find-region .ensures) _ (at-spot .found .given .1) (c .walk-pool .ensures)
+    pool-part _ _ (start .args .image .now) (start .pre) _ (found-of-all _ _ _ (at-found .find-region .ensures)) _ (at-spot .found .given .1) (c .walk-pool .ensures)
 
 pub pool-walked-spec : {M : Type 1} → statement M
 pool-walked-spec =

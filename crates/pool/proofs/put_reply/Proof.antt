@@ -1,5 +1,6 @@
 -- `pool::put_reply` meets its contract.
 -- Assumes nothing.
+use Prim.Native.Nat.{_%_}
 use Rattle.pool.proofs.ReplyBytes.{reply-put}
 use borrow.Author.Needs.{needs}
 use Rattle.pool.proofs.put_reply.Statement.{statement}
@@ -23,8 +24,8 @@ returns c =
     let subject = figures .before .before .before .before in
     let header = subject .before .before .before .before in
     let a = header .before .before .before .args in
-    reply-put (a .reply .now) (a .count) (a .unit) (a .transaction) (a .pool) (a .f) (header .put-header .ensures) (subject .put-subject .ensures)
-    (figures .put-figures .ensures)
+    reply-put (a .reply .now) (a .count % 16384) (a .unit % 16) (a .transaction % 4096) (a .pool) (a .f) (header .put-header .ensures)
+    (subject .put-subject .ensures) (figures .put-figures .ensures)
 
 pub put-reply-spec : {M : Type 1} → statement M
 put-reply-spec =

@@ -2,6 +2,7 @@
 -- Assumes nothing.
 use native.Mathlib.Omega.{arith}
 use Rattle.slot.proofs.Steps.{somewhere, part-fits, packet-sent}
+use Rattle.regions.proofs.Steps.{found-of-all}
 use borrow.Author.Needs.{needs}
 use Rattle.slot.proofs.send.Statement.{statement}
 use Rattle.slot.proofs.send.Tie as tie
@@ -16,7 +17,7 @@ returns : tie.Need-returns
 returns c =
     let at-found = c .before .before in
     let start = at-found .before .before .before .before .before in
-    absurd (somewhere _ _ _ _ (start .pre) _ (at-found .find-region .ensures) (c .enum-told .given .1))
+    absurd (somewhere _ _ _ _ (start .pre) _ (found-of-all _ _ _ (at-found .find-region .ensures)) (c .enum-told .given .1))
 
 enum-known-found : tie.Need-enum-known-found
 enum-known-found c = search needs
@@ -36,7 +37,7 @@ add-from c =
     let at-spot = at-words .before .before .before in
     let at-found = at-spot .before .before in
     let start = at-found .before .before .before .before .before in
-    let fits = part-fits _ _ _ _ (start .pre) _ (at-found .find-region .ensures) _ (at-spot .found .given .1) _ (at-words .packet-words .ensures) in
+    let fits = part-fits _ _ _ _ (start .pre) _ (found-of-all _ _ _ (at-found .find-region .ensures)) _ (at-spot .found .given .1) _ (at-words .packet-words .ensures) in
     omega arith
 
 cast-to : tie.Need-cast-to
@@ -48,7 +49,7 @@ add-to c =
     let at-spot = at-words .before .before .before in
     let at-found = at-spot .before .before in
     let start = at-found .before .before .before .before .before in
-    let fits = part-fits _ _ _ _ (start .pre) _ (at-found .find-region .ensures) _ (at-spot .found .given .1) _ (at-words .packet-words .ensures) in
+    let fits = part-fits _ _ _ _ (start .pre) _ (found-of-all _ _ _ (at-found .find-region .ensures)) _ (at-spot .found .given .1) _ (at-words .packet-words .ensures) in
     omega arith
 
 mul-t17 : tie.Need-mul-t17
@@ -63,7 +64,7 @@ mul-put-packet c =
     let at-spot = at-words .before .before .before in
     let at-found = at-spot .before .before in
     let start = at-found .before .before .before .before .before in
-    let fits = part-fits _ _ _ _ (start .pre) _ (at-found .find-region .ensures) _ (at-spot .found .given .1) _ (at-words .packet-words .ensures) in
+    let fits = part-fits _ _ _ _ (start .pre) _ (found-of-all _ _ _ (at-found .find-region .ensures)) _ (at-spot .found .given .1) _ (at-words .packet-words .ensures) in
     omega arith
 
 sub-put-packet : tie.Need-sub-put-packet
@@ -78,7 +79,7 @@ part-put-packet-end c =
     let at-spot = at-words .before .before .before in
     let at-found = at-spot .before .before in
     let start = at-found .before .before .before .before .before in
-    let fits = part-fits _ _ _ _ (start .pre) _ (at-found .find-region .ensures) _ (at-spot .found .given .1) _ (at-words .packet-words .ensures) in
+    let fits = part-fits _ _ _ _ (start .pre) _ (found-of-all _ _ _ (at-found .find-region .ensures)) _ (at-spot .found .given .1) _ (at-words .packet-words .ensures) in
     omega arith
 
 put-packet-requires : tie.Need-put-packet-requires
@@ -103,7 +104,7 @@ returns-2 c =
     let at-spot = at-words .before .before .before in
     let at-found = at-spot .before .before in
     let start = at-found .before .before .before .before .before in
-    packet-sent _ _ _ _ (start .pre) _ (at-found .find-region .ensures) _ (at-spot .found .given .1) _ (at-words .packet-words .ensures) _ _ (at-put .put-packet .ensures)
+    packet-sent _ _ _ _ (start .pre) _ (found-of-all _ _ _ (at-found .find-region .ensures)) _ (at-spot .found .given .1) _ (at-words .packet-words .ensures) _ _ (at-put .put-packet .ensures .0)
 
 pub send-spec : {M : Type 1} → statement M
 send-spec =

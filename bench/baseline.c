@@ -1,0 +1,445 @@
+/* The six calls of leatgarnet.h by hand, from paper 01 and the header: the yardstick for speed. It does every check that they ask for, and works
+ * on the lent block as it stands. Compiled twice, with -DPREFIX=gcc_ and -DPREFIX=clang_. For little-endian machines. */
+#include "baseline.h"
+#include <string.h>
+
+#define PASTE(a, b) a##b
+#define NAME(prefix, name) PASTE(prefix, name)
+#define CALL(name) NAME(PREFIX, name)
+
+enum { STATE_WORDS = 79, TABLE_WORDS = 54, COMMAND_WORDS = 18, PACKET_WORDS = 8 };
+enum { REGIONS = 1, POOLS = 49, UNIT = 53, PLACES = 54, LAST = 74, COUNT_785 = 75, COUNT_788 = 76, ACCEPTED = 77, REFUSED = 78 };
+enum { BUSY, TRANSACTION, START, WORDS, SENT, PLACE_WORDS };
+enum { LOAD_RIGHT = 1, DUMP_RIGHT = 2, CUT = 1016, LOAD_WORDS = 11, REPLY_BYTES = 32, HEADER_BYTES = 28, SLOT_BYTES = 4092 };
+enum { CODE_DUMP = 0, CODE_CANCEL = 1, CODE_LOAD = 4, CODE_POOL = 7 };
+
+static inline uint32_t get16(const uint8_t *p)
+{
+    uint16_t v;
+    memcpy(&v, p, 2);
+    return __builtin_bswap16(v);
+}
+
+static inline uint32_t get32(const uint8_t *p)
+{
+    uint32_t v;
+    memcpy(&v, p, 4);
+    return __builtin_bswap32(v);
+}
+
+static inline void put16(uint8_t *p, uint32_t v)
+{
+    uint16_t w = __builtin_bswap16((uint16_t)v);
+    memcpy(p, &w, 2);
+}
+
+static inline void put32(uint8_t *p, uint32_t v)
+{
+    v = __builtin_bswap32(v);
+    memcpy(p, &v, 4);
+}
+
+/* The rights of the region of a good table that holds the range whole, or -1; `at` is the range's place in the image.
+ * `start` is a multiple of 4 and `words` is not 0. A start below the region's gives a distance beyond its size. */
+static inline int find(const uint32_t *regions, uint32_t count, uint32_t start, uint32_t words, uint32_t *at)
+{
+    uint32_t before = 0;
+    for (uint32_t i = 0; i < count; i++, regions += 3) {
+        uint32_t distance = (start - regions[0]) >> 2;
+        if (distance < regions[1] && words <= regions[1] - distance) {
+            *at = before + distance;
+            return (int)regions[2];
+        }
+        before += regions[1];
+    }
+    return -1;
+}
+
+/* The sum of the sizes of a table that keeps the rules, or 0. */
+static inline uint32_t table_sum(const uint32_t *regions, uint32_t count)
+{
+    uint64_t end = 0;
+    uint32_t sum = 0;
+    if (count - 1 > 15)
+        return 0;
+    for (uint32_t i = 0; i < count; i++, regions += 3) {
+        if (regions[0] % 4 != 0 || regions[0] < end || regions[1] - 1 >= 1u << 20)
+            return 0;
+        end = regions[0] + 4 * (uint64_t)regions[1];
+        sum += regions[1];
+    }
+    return end <= (uint64_t)1 << 32 ? sum : 0; /* an end past 2^32 before the last region fails at the next start */
+}
+
+static inline int pools_good(const uint32_t *pools, const uint32_t *regions, uint32_t count, uint32_t at[2])
+{
+    for (int i = 0; i < 2; i++, pools += 2) {
+        if (pools[1] == 0) {
+            if (pools[0] != 0)
+                return 0;
+            continue;
+        }
+        int rights = pools[0] % 4 == 0 ? find(regions, count, pools[0], pools[1], &at[i]) : -1;
+        if (rights < 0 || !(rights & DUMP_RIGHT))
+            return 0;
+    }
+    return 1;
+}
+
+/* Where in the image the busy dumps and the pools lie. */
+struct places {
+    uint32_t dump[4], pool[2];
+};
+
+/* The image's length if the block is a state and a good one, or 0. */
+static inline uint32_t good(const uint32_t *s, struct places *at)
+{
+    const uint32_t *regions = s + REGIONS, count = s[0];
+    uint32_t rights = 0, sum;
+    for (int i = 0; i < 16; i++) /* unused entries too: a block with other rights is no state */
+        rights |= regions[3 * i + 2];
+    if (rights > 3 || s[UNIT] > 15 || s[LAST] > 3 || (s[COUNT_785] | s[COUNT_788]) > 16383 || (s[ACCEPTED] | s[REFUSED]) > 65535)
+        return 0;
+    sum = table_sum(regions, count);
+    if (sum == 0 || !pools_good(s + POOLS, regions, count, at->pool))
+        return 0;
+    for (int i = 0; i < 4; i++) {
+        const uint32_t *p = s + PLACES + PLACE_WORDS * i;
+        if (p[BUSY] == 0) {
+            if (p[TRANSACTION] | p[START] | p[WORDS] | p[SENT])
+                return 0;
+            continue;
+        }
+        if (p[BUSY] != 1 || p[TRANSACTION] > 4095 || p[WORDS] - 1 >= 65535 || p[START] % 4 != 0 || p[SENT] >= p[WORDS] || p[SENT] % CUT != 0)
+            return 0;
+        int found = find(regions, count, p[START], p[WORDS], &at->dump[i]);
+        if (found < 0 || !(found & DUMP_RIGHT))
+            return 0;
+        for (const uint32_t *q = s + PLACES; q < p; q += PLACE_WORDS)
+            if (q[BUSY] && q[TRANSACTION] == p[TRANSACTION])
+                return 0;
+    }
+    return sum;
+}
+
+static inline uint32_t exclusive_or(const uint8_t *p, size_t bytes)
+{
+    uint64_t all = 0, part;
+    for (; bytes >= 8; bytes -= 8, p += 8) {
+        memcpy(&part, p, 8);
+        all ^= part;
+    }
+    while (bytes-- > 0)
+        all ^= *p++;
+    all ^= all >> 32;
+    all ^= all >> 16;
+    return (uint32_t)((all ^ all >> 8) & 0xFF);
+}
+
+/* The packet bytes of a code, 0 if it is unknown. */
+static inline uint32_t code_bytes(uint32_t code)
+{
+    switch (code) {
+    case CODE_DUMP: return 16;
+    case CODE_CANCEL: return 10;
+    case CODE_LOAD: return 60;
+    case CODE_POOL: return 12;
+    default: return 0;
+    }
+}
+
+/* Numbers 4 to 7 of a command packet, or 0. */
+static inline uint32_t form(const uint8_t *packet, size_t bytes)
+{
+    if (bytes < 8)
+        return 4;
+    uint32_t first = get16(packet), expected;
+    if (first >> 11 != 3 || packet[2] >> 6 != 3 || get16(packet + 4) != bytes - 7 || packet[6] > 127 || exclusive_or(packet, bytes) != 0xFF)
+        return 4;
+    if ((first & 0x7FF) != 1604)
+        return 5;
+    expected = code_bytes(packet[6]);
+    return expected == 0 ? 6 : expected != bytes ? 7 : 0;
+}
+
+/* Whether number 9 names a field. */
+static inline int bad_request(uint32_t code, uint32_t size, uint32_t address)
+{
+    return address % 4 != 0 || size - 1 >= (code == CODE_LOAD ? LOAD_WORDS : 65535u);
+}
+
+/* The pool's figures in the reply, and 0; or 15. */
+static inline uint32_t pool_figures(const uint32_t *restrict block, uint32_t words, uint8_t *restrict reply)
+{
+    uint32_t left = words, blocks = 0, free_words = 0, free_blocks = 0, largest = 0;
+    while (left > 0) {
+        uint32_t size = *block & 0x7FFFFFFF, used = (uint32_t)((int32_t)*block >> 31), free = size & ~used;
+        if (size - 1 >= left)
+            return 15;
+        free_words += free;
+        free_blocks += 1 + used;
+        largest = free > largest ? free : largest;
+        blocks++;
+        block += size;
+        left -= size;
+    }
+    put32(reply + 12, free_words);
+    put32(reply + 16, free_blocks);
+    put32(reply + 20, largest);
+    put32(reply + 24, words - free_words);
+    put32(reply + 28, blocks - free_blocks);
+    return 0;
+}
+
+static uint32_t refuse(uint32_t *state, uint32_t number)
+{
+    state[REFUSED] = (state[REFUSED] + 1) & 0xFFFF;
+    return number;
+}
+
+uint32_t CALL(start_up)(const uint32_t *restrict table, size_t table_words, uint32_t *restrict state, size_t state_words)
+{
+    const uint32_t *regions;
+    uint32_t rights = 0, pool_at[2];
+    if (table_words != TABLE_WORDS || state_words != STATE_WORDS)
+        return 17;
+    regions = table + 6;
+    memset(state, 0, 4 * STATE_WORDS);
+    state[LAST] = 3;
+    for (int i = 0; i < 16; i++)
+        rights |= regions[3 * i + 2];
+    if (rights > 3 || table[0] > 15 || !table_sum(regions, table[1]) || !pools_good(table + 2, regions, table[1], pool_at))
+        return 17;
+    state[0] = table[1];
+    memcpy(state + REGIONS, regions, 12 * (size_t)table[1]);
+    memcpy(state + POOLS, table + 2, 16);
+    state[UNIT] = table[0];
+    return 0;
+}
+
+uint32_t CALL(command)(uint32_t *restrict s, size_t state_words, const uint8_t *restrict packet, size_t packet_bytes, uint32_t *restrict image,
+                       size_t image_words, uint8_t *restrict reply, size_t reply_bytes, uint32_t *restrict reply_length)
+{
+    struct places at;
+    uint32_t sum, number, transaction, place, *p, *idle = NULL;
+    *reply_length = 0;
+    if (state_words != STATE_WORDS || (sum = good(s, &at)) == 0)
+        return 1;
+    if (image_words != sum)
+        return 2;
+    if (reply_bytes < REPLY_BYTES)
+        return 3;
+    number = form(packet, packet_bytes);
+    if (number == 5)
+        return 5;
+    if (number != 0)
+        return refuse(s, number);
+    if (packet[8] >> 4 != s[UNIT])
+        return 8;
+    transaction = get16(packet + 8) & 0xFFF;
+    switch (packet[6]) {
+    case CODE_DUMP:
+    case CODE_LOAD: {
+        uint32_t code = packet[6], size = get16(packet + 10), address = get32(packet + 12);
+        if (bad_request(code, size, address))
+            return refuse(s, 9);
+        int rights = find(s + REGIONS, s[0], address, size, &place);
+        if (rights < 0)
+            return refuse(s, 10);
+        if (!(rights & (code == CODE_LOAD ? LOAD_RIGHT : DUMP_RIGHT)))
+            return refuse(s, 11);
+        if (code == CODE_LOAD) {
+            for (uint32_t i = 0; i < size; i++)
+                image[place + i] = get32(packet + 16 + 4 * i);
+            break;
+        }
+        for (p = s + LAST - PLACE_WORDS; p >= s + PLACES; p -= PLACE_WORDS) {
+            if (p[BUSY] == 0)
+                idle = p;
+            else if (p[TRANSACTION] == transaction)
+                return refuse(s, 12);
+        }
+        if (idle == NULL)
+            return refuse(s, 13);
+        idle[BUSY] = 1;
+        idle[TRANSACTION] = transaction;
+        idle[START] = address;
+        idle[WORDS] = size;
+        break;
+    }
+    case CODE_CANCEL:
+        for (p = s + PLACES; p < s + LAST; p += PLACE_WORDS)
+            if (p[BUSY] && p[TRANSACTION] == transaction)
+                break;
+        if (p == s + LAST)
+            return refuse(s, 14);
+        memset(p, 0, 4 * PLACE_WORDS);
+        break;
+    default: { /* CODE_POOL */
+        uint32_t pool = get16(packet + 10);
+        if (pool > 1)
+            return refuse(s, 9);
+        if (s[POOLS + 2 * pool + 1] == 0)
+            return refuse(s, 10);
+        if (pool_figures(image + at.pool[pool], s[POOLS + 2 * pool + 1], reply) != 0)
+            return refuse(s, 15);
+        put32(reply, 785u << 16 | 3u << 14 | s[COUNT_785]);
+        put16(reply + 4, REPLY_BYTES - 7);
+        memcpy(reply + 6, packet + 8, 2);
+        put32(reply + 8, pool << 16);
+        s[COUNT_785] = (s[COUNT_785] + 1) & 0x3FFF;
+        *reply_length = REPLY_BYTES;
+    }
+    }
+    s[ACCEPTED] = (s[ACCEPTED] + 1) & 0xFFFF;
+    return 0;
+}
+
+uint32_t CALL(slot)(uint32_t *restrict s, size_t state_words, uint32_t tick, const uint32_t *restrict image, size_t image_words,
+                    uint8_t *restrict buffer, size_t buffer_bytes, uint32_t *restrict length)
+{
+    struct places at;
+    uint32_t sum, place, words, bytes, *p;
+    *length = 0;
+    if (state_words != STATE_WORDS || (sum = good(s, &at)) == 0)
+        return 1;
+    if (image_words != sum)
+        return 2;
+    if (buffer_bytes < SLOT_BYTES)
+        return 3;
+    for (uint32_t i = 1;; i++) {
+        place = (s[LAST] + i) & 3;
+        p = s + PLACES + PLACE_WORDS * place;
+        if (p[BUSY])
+            break;
+        if (i == 4)
+            return 16;
+    }
+    words = p[WORDS] - p[SENT] < CUT ? p[WORDS] - p[SENT] : CUT;
+    bytes = HEADER_BYTES + 4 * words;
+    put32(buffer, 788u << 16 | 3u << 14 | s[COUNT_788]);
+    put16(buffer + 4, bytes - 7);
+    put16(buffer + 6, s[UNIT] << 12 | p[TRANSACTION]);
+    put32(buffer + 8, tick);
+    put32(buffer + 12, p[START]);
+    put32(buffer + 16, p[WORDS]);
+    put32(buffer + 20, p[START] + 4 * p[SENT]);
+    put32(buffer + 24, words);
+    image += at.dump[place] + p[SENT];
+    for (uint32_t i = 0; i < words; i++)
+        put32(buffer + HEADER_BYTES + 4 * i, image[i]);
+    p[SENT] += words;
+    if (p[SENT] == p[WORDS])
+        memset(p, 0, 4 * PLACE_WORDS);
+    s[LAST] = place;
+    s[COUNT_788] = (s[COUNT_788] + 1) & 0x3FFF;
+    *length = bytes;
+    return 0;
+}
+
+uint32_t CALL(write_command)(const uint32_t *restrict command, size_t command_words, uint8_t *restrict buffer, size_t buffer_bytes,
+                             uint32_t *restrict length)
+{
+    *length = 0;
+    if (command_words != COMMAND_WORDS)
+        return 3;
+    uint32_t code = command[0], bytes = code_bytes(code), size = command[4], address = command[5], pool = command[6];
+    if (bytes == 0)
+        return 6;
+    if (buffer_bytes < bytes)
+        return 3;
+    if (command[1] > 16383 || command[2] > 15 || command[3] > 4095 || (code == CODE_POOL && pool > 1))
+        return 9;
+    if ((code == CODE_DUMP || code == CODE_LOAD) && bad_request(code, size, address))
+        return 9;
+    /* the packet as words, so that the check byte is made from registers */
+    uint32_t w0 = 0x1E44C000 | command[1], w1 = (bytes - 7) << 16 | code << 8, w2 = (command[2] << 12 | command[3]) << 16, all = w0 ^ w1;
+    if (code == CODE_DUMP || code == CODE_LOAD) {
+        w2 |= size;
+        all ^= address;
+        put32(buffer + 12, address);
+    } else if (code == CODE_POOL)
+        w2 |= pool;
+    if (code == CODE_LOAD)
+        for (uint32_t i = 0; i < LOAD_WORDS; i++) {
+            uint32_t word = i < size ? command[7 + i] : 0;
+            all ^= word;
+            put32(buffer + 16 + 4 * i, word);
+        }
+    all ^= w2;
+    all ^= all >> 16;
+    put32(buffer, w0);
+    put32(buffer + 4, w1 | (~(all ^ all >> 8) & 0xFF));
+    put16(buffer + 8, w2 >> 16);
+    if (code != CODE_CANCEL)
+        put16(buffer + 10, w2);
+    *length = bytes;
+    return 0;
+}
+
+uint32_t CALL(read_command)(const uint8_t *restrict packet, size_t packet_bytes, uint32_t *restrict command, size_t command_words)
+{
+    uint32_t number, code, size = 0, address = 0, pool = 0;
+    if (command_words != COMMAND_WORDS)
+        return 3;
+    number = form(packet, packet_bytes);
+    if (number != 0)
+        return number;
+    code = packet[6];
+    if (code == CODE_DUMP || code == CODE_LOAD) {
+        size = get16(packet + 10);
+        address = get32(packet + 12);
+        if (bad_request(code, size, address))
+            return 9;
+    } else if (code == CODE_POOL) {
+        pool = get16(packet + 10);
+        if (pool > 1)
+            return 9;
+    }
+    command[0] = code;
+    command[1] = get16(packet + 2) & 0x3FFF;
+    command[2] = packet[8] >> 4;
+    command[3] = get16(packet + 8) & 0xFFF;
+    command[4] = size;
+    command[5] = address;
+    command[6] = pool;
+    if (code == CODE_LOAD)
+        for (uint32_t i = 0; i < LOAD_WORDS; i++)
+            command[7 + i] = get32(packet + 16 + 4 * i);
+    else
+        memset(command + 7, 0, 4 * LOAD_WORDS);
+    return 0;
+}
+
+uint32_t CALL(read_packet)(const uint8_t *restrict packet, size_t packet_bytes, uint32_t *restrict fields, size_t fields_words,
+                           uint32_t *restrict data_bytes)
+{
+    *data_bytes = 0;
+    if (fields_words != PACKET_WORDS)
+        return 3;
+    if (packet_bytes < HEADER_BYTES)
+        return 4;
+    uint32_t first = get16(packet), start = get32(packet + 12), asked = get32(packet + 16), here = get32(packet + 20);
+    uint32_t words = get32(packet + 24);
+    uint32_t sent = (here - start) / 4; /* `here` below `start` gives a number beyond those that can be asked for */
+    if (first >> 11 != 0 || packet[2] >> 6 != 3 || get16(packet + 4) != packet_bytes - 7)
+        return 4;
+    if (first != 788)
+        return 5;
+    if (words - 1 >= CUT || packet_bytes != HEADER_BYTES + 4 * words)
+        return 7;
+    if (start % 4 != 0 || here % 4 != 0 || asked - 1 >= 65535 || start + 4 * (uint64_t)asked > (uint64_t)1 << 32)
+        return 9;
+    if (sent >= asked || sent % CUT != 0 || words != (asked - sent < CUT ? asked - sent : CUT))
+        return 9;
+    fields[0] = get16(packet + 2) & 0x3FFF;
+    fields[1] = packet[6] >> 4;
+    fields[2] = get16(packet + 6) & 0xFFF;
+    fields[3] = get32(packet + 8);
+    fields[4] = start;
+    fields[5] = asked;
+    fields[6] = here;
+    fields[7] = words;
+    *data_bytes = (uint32_t)packet_bytes - HEADER_BYTES;
+    return 0;
+}

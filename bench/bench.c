@@ -1,0 +1,620 @@
+/* The speed of the library beside the same six calls by hand in C (baseline.c), by gcc and by clang: one program, one run, the same inputs.
+ * First the three must agree on every case and on random changes of it; then they are timed in turns. See bench/run. */
+#include "../c/leatgarnet.h"
+#include "baseline.h"
+#include <stdio.h>
+#include <stdlib.h>
+#include <string.h>
+#include <time.h>
+#include <ucontext.h>
+
+enum { OURS, GCC, CLANG, EMPTY, LIBRARIES };
+enum kind { START_UP, COMMAND, SLOT, WRITE, READ, READ_PACKET };
+enum { UNIT = 2, POOL_WORDS = 1 << 20, IMAGE_WORDS = POOL_WORDS + 65536, BUFFER_BYTES = 4096, ROUNDS = 41, SMOKE_ROUNDS = 3, MAX_CASES = 64 };
+enum { S_POOLS = 49, S_PLACES = 54, S_LAST = 74 };
+
+struct library {
+    const char *name;
+    uint32_t (*start_up)(const uint32_t *, size_t, uint32_t *, size_t);
+    uint32_t (*command)(uint32_t *, size_t, const uint8_t *, size_t, uint32_t *, size_t, uint8_t *, size_t, uint32_t *);
+    uint32_t (*slot)(uint32_t *, size_t, uint32_t, const uint32_t *, size_t, uint8_t *, size_t, uint32_t *);
+    uint32_t (*write_command)(const uint32_t *, size_t, uint8_t *, size_t, uint32_t *);
+    uint32_t (*read_command)(const uint8_t *, size_t, uint32_t *, size_t);
+    uint32_t (*read_packet)(const uint8_t *, size_t, uint32_t *, size_t, uint32_t *);
+};
+
+/* Calls that do nothing: the loop, the restored words and the call itself. Their time is taken off all three. */
+#define NOTHING { __asm__ volatile(""); return 0; }
+#define U __attribute__((unused))
+static uint32_t no_start_up(U const uint32_t *t, U size_t n, U uint32_t *s, U size_t m) NOTHING
+static uint32_t no_command(U uint32_t *s, U size_t n, U const uint8_t *p, U size_t b, U uint32_t *i, U size_t w, U uint8_t *r, U size_t l,
+                           U uint32_t *x) NOTHING
+static uint32_t no_slot(U uint32_t *s, U size_t n, U uint32_t t, U const uint32_t *i, U size_t w, U uint8_t *b, U size_t l,
+                        U uint32_t *x) NOTHING
+static uint32_t no_write(U const uint32_t *c, U size_t n, U uint8_t *b, U size_t l, U uint32_t *x) NOTHING
+static uint32_t no_read(U const uint8_t *p, U size_t b, U uint32_t *c, U size_t n) NOTHING
+static uint32_t no_read_packet(U const uint8_t *p, U size_t b, U uint32_t *f, U size_t n, U uint32_t *x) NOTHING
+
+static const struct library libraries[LIBRARIES] = {
+    { "ours", lg_start_up, lg_command, lg_slot, lg_write_command, lg_read_command, lg_read_packet },
+    { "gcc", gcc_start_up, gcc_command, gcc_slot, gcc_write_command, gcc_read_command, gcc_read_packet },
+    { "clang", clang_start_up, clang_command, clang_slot, clang_write_command, clang_read_command, clang_read_packet },
+    { "empty", no_start_up, no_command, no_slot, no_write, no_read, no_read_packet },
+};
+
+/* What a case hands in. `words` is the table, command or field block of the calls that have one; `buffer` the reply or packet buffer. */
+struct input {
+    uint32_t state[LG_STATE_WORDS], words[LG_TABLE_WORDS];
+    uint8_t packet[BUFFER_BYTES];
+    size_t packet_bytes, image_words, buffer_bytes;
+};
+
+struct test {
+    char name[80];
+    enum kind kind;
+    void (*image)(uint32_t); /* fills the image, given `parameter` */
+    uint32_t parameter, number;
+    double bound;            /* 0: only in a growth table */
+    double units;            /* regions, words or blocks of a line of a growth table */
+    double bytes, blocks;    /* moved or walked by one call, for the rate */
+    struct input in;
+    int changed;             /* words of the state that the call changes, restored before each call */
+    uint32_t index[LG_STATE_WORDS], value[LG_STATE_WORDS];
+    long calls;              /* in one round */
+    double times[LIBRARIES][ROUNDS], median[LIBRARIES], best[LIBRARIES], ratio, best_ratio;
+};
+
+static struct test tests[MAX_CASES];
+static int count, smoke, rounds;
+
+/* Lent memory. Page offsets differ, so that no load seems to follow a store 4,096 bytes off. */
+static uint32_t image[IMAGE_WORDS] __attribute__((aligned(4096)));
+static uint32_t spare_image[IMAGE_WORDS];
+static struct {
+    uint8_t gap[2048 + 64], buffer[BUFFER_BYTES], gap_2[512];
+    uint32_t state[LG_STATE_WORDS], words[LG_TABLE_WORDS], length;
+} lent __attribute__((aligned(4096)));
+
+static uint64_t seed = 1;
+
+static uint32_t random_below(uint32_t n)
+{
+    seed = seed * 6364136223846793005u + 1442695040888963407u;
+    return (uint32_t)((seed >> 33) % n);
+}
+
+/* ---- Inputs ---- */
+
+static void plain_image(uint32_t parameter)
+{
+    for (uint32_t i = 0; i < IMAGE_WORDS; i++)
+        image[i] = (i + parameter) * 2654435761u;
+}
+
+/* A pool of 2^20 words at the image's start, of blocks of sizes from low to high by chance, each used or free by chance. */
+static void pool_blocks(uint32_t low, uint32_t high)
+{
+    uint32_t at = 0;
+    seed = 7;
+    while (at < POOL_WORDS) {
+        uint32_t size = low + random_below(high - low + 1);
+        if (size > POOL_WORDS - at)
+            size = POOL_WORDS - at;
+        image[at] = size | random_below(2) << 31;
+        for (uint32_t i = 1; i < size; i++)
+            image[at + i] = i;
+        at += size;
+    }
+}
+
+static void small_blocks(uint32_t parameter) { (void)parameter; pool_blocks(1, 8); }
+static void middle_blocks(uint32_t parameter) { (void)parameter; pool_blocks(32, 256); }
+static void equal_blocks(uint32_t parameter) { pool_blocks(POOL_WORDS / parameter, POOL_WORDS / parameter); }
+
+static uint32_t walk(void)
+{
+    uint32_t blocks = 0;
+    for (uint32_t at = 0; at < POOL_WORDS; at += image[at] & 0x7FFFFFFF)
+        blocks++;
+    return blocks;
+}
+
+static uint32_t region_start(uint32_t i) { return 0x10000000 + i * 0x1000000; }
+
+/* A table of `regions` regions of `size` words each, both rights, no pools. */
+static void table(uint32_t *words, uint32_t regions, uint32_t size)
+{
+    memset(words, 0, 4 * LG_TABLE_WORDS);
+    words[0] = UNIT;
+    words[1] = regions;
+    for (uint32_t i = 0; i < regions; i++) {
+        words[6 + 3 * i] = region_start(i);
+        words[7 + 3 * i] = size;
+        words[8 + 3 * i] = 3;
+    }
+}
+
+static void fresh(struct input *in, uint32_t regions, uint32_t size)
+{
+    table(in->words, regions, size);
+    in->image_words = regions * size;
+    if (lg_start_up(in->words, LG_TABLE_WORDS, in->state, LG_STATE_WORDS) != 0)
+        abort();
+}
+
+static void busy(struct input *in, uint32_t place, uint32_t transaction, uint32_t address, uint32_t words)
+{
+    const uint32_t dump[5] = { 1, transaction, address, words, 0 };
+    memcpy(in->state + S_PLACES + 5 * place, dump, sizeof dump);
+}
+
+static void command(struct input *in, const uint32_t words[LG_COMMAND_WORDS])
+{
+    uint32_t length;
+    if (lg_write_command(words, LG_COMMAND_WORDS, in->packet, BUFFER_BYTES, &length) != 0)
+        abort();
+    in->packet_bytes = length;
+    memcpy(in->words, words, 4 * LG_COMMAND_WORDS);
+}
+
+static struct test *add(const char *name, enum kind kind, uint32_t number, double bound)
+{
+    struct test *t = &tests[count++];
+    if (count > MAX_CASES)
+        abort();
+    snprintf(t->name, sizeof t->name, "%s", name);
+    t->kind = kind;
+    t->number = number;
+    t->bound = bound;
+    t->image = plain_image;
+    t->in.buffer_bytes = kind == SLOT ? 4092 : kind == WRITE ? 60 : 32;
+    return t;
+}
+
+/* A slot with one dump busy, of `words` words at the start of the last region. */
+static struct test *slot_case(const char *name, uint32_t regions, uint32_t words, double bound)
+{
+    struct test *t = add(name, SLOT, 0, bound);
+    fresh(&t->in, regions, 4096);
+    busy(&t->in, 1, 0x123, region_start(regions - 1), words);
+    t->bytes = 4.0 * (words < 1016 ? words : 1016);
+    return t;
+}
+
+/* A command to a box of `regions` regions of 4,096 words, with one dump busy (transaction 123 hex). */
+static struct test *command_case(const char *name, uint32_t regions, uint32_t number, const uint32_t words[LG_COMMAND_WORDS], double bound)
+{
+    struct test *t = add(name, COMMAND, number, bound);
+    fresh(&t->in, regions, 4096);
+    busy(&t->in, 1, 0x123, region_start(0), 3000);
+    command(&t->in, words);
+    return t;
+}
+
+static struct test *pool_case(const char *name, void (*fill)(uint32_t), uint32_t parameter, double bound)
+{
+    struct test *t = add(name, COMMAND, 0, bound);
+    const uint32_t words[LG_COMMAND_WORDS] = { 7, 1, UNIT, 0x321 };
+    fresh(&t->in, 1, POOL_WORDS);
+    t->in.state[S_POOLS] = region_start(0);
+    t->in.state[S_POOLS + 1] = POOL_WORDS;
+    command(&t->in, words);
+    t->image = fill;
+    t->parameter = parameter;
+    fill(parameter);
+    t->blocks = walk();
+    return t;
+}
+
+/* The fullest good state: sixteen regions, two pools, four dumps busy, the ranges in the last regions. */
+static void fill_state(struct input *in, uint32_t dumps)
+{
+    for (uint32_t i = 0; i < dumps; i++)
+        busy(in, i, 0x123 + i, region_start(15), 1016);
+    for (uint32_t i = 0; i < 2; i++) {
+        in->state[S_POOLS + 2 * i] = region_start(14 + i);
+        in->state[S_POOLS + 2 * i + 1] = 64;
+    }
+}
+
+static void cases(void)
+{
+    const uint32_t dump[LG_COMMAND_WORDS] = { 0, 1, UNIT, 0x321, 3000, region_start(1) };
+    const uint32_t cancel[LG_COMMAND_WORDS] = { 1, 1, UNIT, 0x123 };
+    const uint32_t load[LG_COMMAND_WORDS] = { 4, 1, UNIT, 0x321, 11, region_start(1) + 400, 0, 1, 2, 3, 4, 5, 6, 7, 8, 9, 10, 11 };
+    const uint32_t far[LG_COMMAND_WORDS] = { 0, 1, UNIT, 0x321, 4097, region_start(1) };
+    const uint32_t again[LG_COMMAND_WORDS] = { 0, 1, UNIT, 0x123, 3000, region_start(1) };
+    const uint32_t nothing[LG_COMMAND_WORDS] = { 1, 1, UNIT, 0x124 };
+    const uint32_t pool[LG_COMMAND_WORDS] = { 7, 1, UNIT, 0x321, 0, 0, 1 };
+    const uint32_t elsewhere[LG_COMMAND_WORDS] = { 0, 1, UNIT + 1, 0x321, 3000, region_start(1) };
+    struct test *t;
+
+    slot_case("slot of 1,016 words", 4, 3000, 1.2);
+    t = slot_case("slot of 1,016 words, fullest state", 16, 3000, 1.2);
+    fill_state(&t->in, 4);
+    slot_case("slot of 1 word", 4, 1, 2);
+    t = slot_case("slot of 1 word, fullest state", 16, 1, 2);
+    fill_state(&t->in, 4);
+    t->in.state[S_LAST] = 0;
+    busy(&t->in, 1, 0x777, region_start(15), 1);
+    t->bytes = 4;
+    command_case("dump", 4, 0, dump, 2);
+    t = command_case("dump, fullest state", 16, 0, dump, 2);
+    fill_state(&t->in, 3);
+    command_case("cancel", 4, 0, cancel, 2);
+    command_case("load of 11 words", 4, 0, load, 2);
+    t = command_case("refused: wrong check byte (4)", 4, 4, dump, 2);
+    t->in.packet[7] ^= 1;
+    command_case("refused: another unit (8)", 4, 8, elsewhere, 2);
+    command_case("refused: out of region (10)", 4, 10, far, 2);
+    command_case("refused: transaction busy (12)", 4, 12, again, 2);
+    command_case("refused: no such dump (14)", 4, 14, nothing, 2);
+    t = command_case("refused: pool damaged (15)", 16, 15, pool, 2);
+    fill_state(&t->in, 2);
+    t = slot_case("refused: no dump busy, slot (16)", 4, 0, 2);
+    memset(t->in.state + S_PLACES, 0, 4 * (S_LAST - S_PLACES));
+    t->number = 16;
+    pool_case("pool of 2^20 words, blocks of 1 to 8", small_blocks, 0, 1.2);
+    pool_case("pool of 2^20 words, blocks of 32 to 256", middle_blocks, 0, 1.2);
+    t = add("command writer, dump", WRITE, 0, 2);
+    command(&t->in, dump);
+    t = add("command writer, load of 11", WRITE, 0, 2);
+    command(&t->in, load);
+    t = add("command reader, dump", READ, 0, 2);
+    command(&t->in, dump);
+    t = add("command reader, load of 11", READ, 0, 2);
+    command(&t->in, load);
+    t = slot_case("dump packet reader, 4,092 bytes", 1, 3000, 2);
+    t->kind = READ_PACKET;
+    t->bytes = 0; /* it passes over no data */
+    plain_image(0);
+    if (lg_slot(t->in.state, LG_STATE_WORDS, 5, image, t->in.image_words, t->in.packet, BUFFER_BYTES, &lent.length) != 0)
+        abort();
+    t->in.packet_bytes = lent.length;
+    t = add("start-up, 1 region", START_UP, 0, 2);
+    table(t->in.words, 1, 4096);
+    t = add("start-up, 16 regions", START_UP, 0, 2);
+    table(t->in.words, 16, 4096);
+}
+
+/* ---- Calls ---- */
+
+static inline uint32_t call(const struct library *l, const struct test *t, uint32_t *img)
+{
+    const struct input *in = &t->in;
+    switch (t->kind) {
+    case START_UP: return l->start_up(in->words, LG_TABLE_WORDS, lent.state, LG_STATE_WORDS);
+    case COMMAND:
+        return l->command(lent.state, LG_STATE_WORDS, in->packet, in->packet_bytes, img, in->image_words, lent.buffer, in->buffer_bytes,
+                          &lent.length);
+    case SLOT: return l->slot(lent.state, LG_STATE_WORDS, 5, img, in->image_words, lent.buffer, in->buffer_bytes, &lent.length);
+    case WRITE: return l->write_command(in->words, LG_COMMAND_WORDS, lent.buffer, in->buffer_bytes, &lent.length);
+    case READ: return l->read_command(in->packet, in->packet_bytes, lent.words, LG_COMMAND_WORDS);
+    default: return l->read_packet(in->packet, in->packet_bytes, lent.words, LG_PACKET_WORDS, &lent.length);
+    }
+}
+
+static void lend(const struct test *t)
+{
+    memcpy(lent.state, t->in.state, sizeof lent.state);
+    memset(lent.buffer, 0xA5, sizeof lent.buffer);
+    memset(lent.words, 0xA5, sizeof lent.words);
+    lent.length = 0xA5A5A5A5;
+}
+
+/* Whether all three leave the same: number, state, image, buffer, blocks and length. The number of ours. */
+static uint32_t agree(const struct test *t)
+{
+    static struct { uint8_t buffer[BUFFER_BYTES]; uint32_t state[LG_STATE_WORDS], words[LG_TABLE_WORDS], length; } first;
+    static uint32_t first_image[IMAGE_WORDS];
+    size_t bytes = 4 * (t->kind == COMMAND ? t->in.image_words : 0);
+    uint32_t number = 0, got;
+    for (int l = OURS; l <= CLANG; l++) {
+        lend(t);
+        memcpy(spare_image, image, bytes);
+        got = call(&libraries[l], t, t->kind == COMMAND ? spare_image : image);
+        if (l == OURS) {
+            number = got;
+            memcpy(first.buffer, lent.buffer, sizeof first.buffer);
+            memcpy(first.state, lent.state, sizeof first.state);
+            memcpy(first.words, lent.words, sizeof first.words);
+            first.length = lent.length;
+            memcpy(first_image, spare_image, bytes);
+        } else if (got != number || memcmp(first.buffer, lent.buffer, sizeof first.buffer) || memcmp(first.state, lent.state, sizeof first.state)
+                   || memcmp(first.words, lent.words, sizeof first.words) || first.length != lent.length
+                   || memcmp(first_image, spare_image, bytes)) {
+            printf("DIFFERENT: %s: ours answers %u, %s %u\n", t->name, (unsigned)number, libraries[l].name, (unsigned)got);
+            exit(1);
+        }
+    }
+    return number;
+}
+
+/* The case as it is, and then with one to three random changes of the state, the packet or the block; half of the packets get a right check
+ * byte. How many of these were tried. */
+static int check(struct test *t, int tries)
+{
+    static const uint32_t values[] = { 0, 1, 2, 3, 4, 10, 11, 12, 15, 16, 255, 256, 1016, 2032, 4095, 4096, 16383, 16384, 65535, 65536, 1 << 20,
+                                       (1 << 20) + 1, 0x10000000, 0x11000000, 0x1F000000, 0xFFFFFFFC, 0xFFFFFFFF };
+    static struct test other;
+    uint32_t number, random = (uint32_t)(t - tests) + 1;
+    t->image(t->parameter);
+    number = agree(t);
+    if (number != t->number) {
+        printf("DIFFERENT: %s: number %u, not %u\n", t->name, (unsigned)number, (unsigned)t->number);
+        exit(1);
+    }
+    t->changed = 0;
+    for (uint32_t i = 0; i < LG_STATE_WORDS; i++)
+        if (t->kind != START_UP && lent.state[i] != t->in.state[i]) {
+            t->index[t->changed] = i;
+            t->value[t->changed++] = t->in.state[i];
+        }
+    if (t->in.image_words > 65536)
+        return 0;
+    seed = random;
+    for (int i = 0; i < tries; i++) {
+        other = *t;
+        for (uint32_t changes = 1 + random_below(3); changes > 0; changes--) {
+            uint32_t *words = t->kind == COMMAND || t->kind == SLOT ? other.in.state : other.in.words;
+            uint32_t bound = t->kind == COMMAND || t->kind == SLOT ? LG_STATE_WORDS : t->kind == START_UP ? LG_TABLE_WORDS : LG_COMMAND_WORDS;
+            uint32_t *word = words + random_below(bound), v = values[random_below(sizeof values / sizeof values[0])];
+            if (other.in.packet_bytes > 0 && random_below(2)) {
+                uint8_t *byte = other.in.packet + random_below(other.in.packet_bytes < 28 || random_below(9) == 0 ? other.in.packet_bytes : 28);
+                *byte = (uint8_t)(random_below(2) ? *byte ^ 1u << random_below(8) : random_below(256));
+                if (random_below(20) == 0)
+                    other.in.packet_bytes = random_below(62);
+            } else
+                *word = random_below(2) ? v : random_below(2) ? *word + v : *word - v;
+        }
+        if (random_below(2) && other.in.packet_bytes >= 8) {
+            uint8_t all = 0;
+            for (size_t b = 0; b < other.in.packet_bytes; b++)
+                all ^= other.in.packet[b];
+            other.in.packet[7] ^= (uint8_t)~all;
+        }
+        if (random_below(20) == 0)
+            other.in.buffer_bytes -= 1 + random_below(20);
+        agree(&other);
+    }
+    return tries;
+}
+
+/* ---- Time ---- */
+
+static volatile uint32_t sink;
+
+static double run(const struct library *l, const struct test *t, long calls)
+{
+    struct timespec from, to;
+    uint32_t all = 0;
+    clock_gettime(CLOCK_MONOTONIC, &from);
+    for (long i = 0; i < calls; i++) {
+        for (int j = 0; j < t->changed; j++)
+            lent.state[t->index[j]] = t->value[j];
+        all += call(l, t, image);
+    }
+    clock_gettime(CLOCK_MONOTONIC, &to);
+    sink = all;
+    return ((double)(to.tv_sec - from.tv_sec) * 1e9 + (double)(to.tv_nsec - from.tv_nsec)) / (double)calls;
+}
+
+static int ascending(const void *a, const void *b)
+{
+    double x = *(const double *)a, y = *(const double *)b;
+    return (x > y) - (x < y);
+}
+
+static double above(double x) { return x > 0.1 ? x : 0.1; }
+static double less(double a, double b) { return a < b ? a : b; }
+
+static void own_image(const struct test *t)
+{
+    static void (*filled)(uint32_t);
+    static uint32_t parameter;
+    if (filled != t->image || parameter != t->parameter)
+        t->image(t->parameter);
+    filled = t->image;
+    parameter = t->parameter;
+}
+
+static void calibrate(struct test *t)
+{
+    double one;
+    own_image(t);
+    lend(t);
+    one = run(&libraries[OURS], t, 1);
+    one = run(&libraries[OURS], t, one > 1e6 ? 1 : 200);
+    t->calls = (long)((smoke ? 2e4 : 2e6) / one) + 1;
+}
+
+/* Each library once, in turns; each warms up by itself. */
+static void measure(struct test *t, int round)
+{
+    own_image(t);
+    lend(t);
+    for (int k = 0; k < LIBRARIES; k++) {
+        int l = (round + k) % LIBRARIES;
+        run(&libraries[l], t, t->calls / 50 + 1);
+        t->times[l][round] = run(&libraries[l], t, t->calls);
+    }
+}
+
+/* The ratio is the median of the rounds' own ratios, so that a slow spell of the machine counts little. */
+static void settle(struct test *t)
+{
+    double sorted[ROUNDS];
+    int better;
+    for (int l = 0; l < LIBRARIES; l++) {
+        memcpy(sorted, t->times[l], sizeof sorted);
+        qsort(sorted, (size_t)rounds, sizeof sorted[0], ascending);
+        t->median[l] = sorted[rounds / 2];
+        t->best[l] = sorted[0];
+    }
+    for (int l = 0; l < EMPTY; l++) {
+        t->median[l] = above(t->median[l] - t->median[EMPTY]);
+        t->best[l] = above(t->best[l] - t->best[EMPTY]);
+    }
+    better = t->median[GCC] < t->median[CLANG] ? GCC : CLANG;
+    for (int r = 0; r < rounds; r++)
+        sorted[r] = above(t->times[OURS][r] - t->median[EMPTY]) / above(t->times[better][r] - t->median[EMPTY]);
+    qsort(sorted, (size_t)rounds, sizeof sorted[0], ascending);
+    t->ratio = sorted[rounds / 2];
+    t->best_ratio = t->best[OURS] / less(t->best[GCC], t->best[CLANG]);
+}
+
+static double c_median(const struct test *t) { return less(t->median[GCC], t->median[CLANG]); }
+
+static void rate(char *text, size_t size, const struct test *t, double ns)
+{
+    if (t->blocks > 0)
+        snprintf(text, size, "%.2f ns/block", ns / t->blocks);
+    else if (t->bytes >= 1024)
+        snprintf(text, size, "%.2f GB/s", t->bytes / ns);
+    else
+        snprintf(text, size, "-");
+}
+
+static void report(const struct test *t)
+{
+    char ours[32], theirs[32];
+    rate(ours, sizeof ours, t, t->median[OURS]);
+    rate(theirs, sizeof theirs, t, c_median(t));
+    printf("| %s | %.1f (%.1f) | %.1f (%.1f) | %.1f (%.1f) | %.1f | %s | %s | %.2f | %.2f | %.1f%s |\n", t->name, t->median[OURS], t->best[OURS],
+           t->median[GCC], t->best[GCC], t->median[CLANG], t->best[CLANG], t->median[EMPTY], ours, theirs, t->ratio, t->best_ratio, t->bound,
+           t->ratio <= t->bound ? "" : " missed");
+}
+
+/* Prints the lines of a growth table: the times, and what each unit costs, all of them or those that the line before has not. */
+static void growth(const char *title, const char *unit, int all, const struct test *t, int lines)
+{
+    const char *how = all ? "for each" : "for each more";
+    double last_units = 0, last_ours = 0, last_c = 0;
+    printf("\n%s (best of the rounds)\n\n| %s | ours, ns | better C, ns | ratio | ours, ns %s | better C, ns %s |\n", title, unit, how, how);
+    printf("|---|---|---|---|---|---|\n");
+    for (int i = 0; i < lines; i++, t++) {
+        double ours = t->best[OURS], c = less(t->best[GCC], t->best[CLANG]);
+        printf("| %.0f | %.1f | %.1f | %.2f |", t->units, ours, c, ours / c);
+        if (i > 0 || all)
+            printf(" %.2f | %.2f |\n", (ours - last_ours) / (t->units - last_units), (c - last_c) / (t->units - last_units));
+        else
+            printf(" - | - |\n");
+        if (!all) {
+            last_units = t->units;
+            last_ours = ours;
+            last_c = c;
+        }
+    }
+}
+
+/* ---- Stack ---- */
+
+static ucontext_t here, there;
+static uint8_t stack[1 << 16];
+static const struct library *stack_library;
+static const struct test *stack_test;
+
+static void on_stack(void) { call(stack_library, stack_test, image); }
+
+/* Bytes of a stack of its own that one call writes to. */
+static long stack_bytes(const struct library *l, const struct test *t)
+{
+    long untouched = 0;
+    stack_library = l;
+    stack_test = t;
+    own_image(t);
+    lend(t);
+    memset(stack, 0xA5, sizeof stack);
+    getcontext(&there);
+    there.uc_stack.ss_sp = stack;
+    there.uc_stack.ss_size = sizeof stack;
+    there.uc_link = &here;
+    makecontext(&there, on_stack, 0);
+    swapcontext(&here, &there);
+    while (stack[untouched] == 0xA5)
+        untouched++;
+    return (long)sizeof stack - untouched;
+}
+
+static void stack_table(int listed)
+{
+    static const char *const names[] = { "start-up", "command", "slot", "command writer", "command reader", "dump packet reader" };
+    printf("\nStack: the most bytes that a call of a case wrote to, beyond the empty call's\n\n| Call | ours | gcc | clang |\n|---|---|---|---|\n");
+    for (int kind = START_UP; kind <= READ_PACKET; kind++) {
+        long most[EMPTY] = { 0 };
+        for (int i = 0; i < listed; i++)
+            for (int l = 0; l < EMPTY && (int)tests[i].kind == kind; l++) {
+                long bytes = stack_bytes(&libraries[l], &tests[i]) - stack_bytes(&libraries[EMPTY], &tests[i]);
+                most[l] = bytes > most[l] ? bytes : most[l];
+            }
+        printf("| %s | %ld | %ld | %ld |\n", names[kind], most[OURS], most[GCC], most[CLANG]);
+    }
+}
+
+/* The cases of the growth tables, after the others. */
+static void growth_cases(void)
+{
+    static const uint32_t regions[] = { 1, 2, 4, 8, 16 }, words[] = { 1, 16, 64, 256, 512, 1016 };
+    static const uint32_t blocks[] = { 1, 16, 256, 4096, 65536, 1 << 20 };
+    for (int i = 0; i < 5; i++)
+        slot_case("slot of 1,016 words by regions", regions[i], 3000, 0)->units = regions[i];
+    for (int i = 0; i < 5; i++)
+        slot_case("slot of 1 word by regions", regions[i], 1, 0)->units = regions[i];
+    for (int i = 0; i < 6; i++)
+        slot_case("slot by words", 4, words[i], 0)->units = words[i];
+    for (int i = 0; i < 6; i++)
+        pool_case("pool by blocks", equal_blocks, blocks[i], 0)->units = blocks[i];
+    for (int i = 0; i < 5; i++) {
+        const uint32_t dump[LG_COMMAND_WORDS] = { 0, 1, UNIT, 0x321, 3000, region_start(regions[i] - 1) };
+        command_case("dump by regions", regions[i], 0, dump, 0)->units = regions[i];
+    }
+}
+
+int main(int argc, char **argv)
+{
+    int tried = 0, within = 0, missed = 0, listed;
+    smoke = argc > 1 && strcmp(argv[1], "--smoke") == 0;
+    rounds = smoke ? SMOKE_ROUNDS : ROUNDS;
+    cases();
+    listed = count;
+    growth_cases();
+    if (argc == 5 && strcmp(argv[1], "--one") == 0) { /* --one CASE LIBRARY CALLS: one case (from 0), for a profiler */
+        struct test *t = &tests[atoi(argv[2]) % count];
+        check(t, 0);
+        lend(t);
+        run(&libraries[atoi(argv[3]) % LIBRARIES], t, atol(argv[4]));
+        return 0;
+    }
+    for (int i = 0; i < count; i++)
+        tried += check(&tests[i], i >= listed ? 0 : smoke ? 200 : 3000);
+    printf("\nThe three agree on %d cases and %d random changes of them.\n\n", count, tried);
+    fflush(stdout);
+    for (int i = 0; i < count; i++)
+        calibrate(&tests[i]);
+    for (int r = 0; r < rounds; r++) /* every case in every round, so that a slow spell falls on all */
+        for (int i = 0; i < count; i++)
+            measure(&tests[i], r);
+    for (int i = 0; i < count; i++)
+        settle(&tests[i]);
+    printf("Nanoseconds per call: median (best) of %d rounds, the libraries in turns; the empty loop is taken off all three.\n", rounds);
+    printf("Ratio: ours to the better C, the median of the rounds.\n\n");
+    printf("| Case | ours | gcc | clang | loop | ours, rate | better C, rate | ratio | ratio of bests | bound |\n");
+    printf("|---|---|---|---|---|---|---|---|---|---|\n");
+    for (int i = 0; i < listed; i++) {
+        report(&tests[i]);
+        within += tests[i].ratio <= tests[i].bound;
+    }
+    growth("Slot of 1,016 words against regions, the dump in the last", "Regions", 0, &tests[listed], 5);
+    growth("Slot of 1 word against regions, the dump in the last", "Regions", 0, &tests[listed + 5], 5);
+    growth("Slot against words, four regions", "Words", 0, &tests[listed + 10], 6);
+    growth("Pool of 2^20 words against blocks of equal size, used or free by chance", "Blocks", 1, &tests[listed + 16], 6);
+    growth("Dump command against regions, the range in the last", "Regions", 0, &tests[listed + 22], 5);
+    stack_table(listed);
+    printf("\n%d of %d cases are within their bounds (1.2 for slots of 1,016 words and pools, 2 for short calls).%s", within, listed,
+           within < listed ? " Not within:" : "");
+    for (int i = 0; i < listed; i++)
+        if (tests[i].ratio > tests[i].bound)
+            printf("%s %s (%.2f)", missed++ ? ";" : "", tests[i].name, tests[i].ratio);
+    printf("\n");
+    return 0;
+}

@@ -1,0 +1,137 @@
+// The command block and the dump packet block of the C interface: fields read from words, and words made of fields.
+ghost use mathlib.Core.Path.{_≡_};
+ghost use Prim.Native.Nat.{min};
+ghost use Rattle.rules.specs.Packets.{codeOf};
+ghost use Rattle.ground_blocks.specs.Fields.{headerIn, sizeIn, requestIn, commandIn, dataIn, bodyWords, headWords, fieldWords};
+use block::word_at;
+use rules::Address;
+use rules::Command;
+use rules::Decoded;
+use rules::DumpPacket;
+use rules::Header;
+use rules::Request;
+use rules::Telecommand;
+
+// A COMMAND READ FROM WORDS
+
+fn at_most_16(w: u32) -> u16
+    ensures { λ r. ⌜ r ≡ min 65535 w ⌝ }
+{
+    if w < 65535 { w as u16 } else { 65535 }
+}
+
+fn at_most_8(w: u32) -> u8
+    ensures { λ r. ⌜ r ≡ min 255 w ⌝ }
+{
+    if w < 255 { w as u8 } else { 255 }
+}
+
+fn size_in(w: u32) -> u16
+    ensures { λ r. ⌜ r ≡ sizeIn w ⌝ }
+{
+    if w <= 65535 { w as u16 } else { 0 }
+}
+
+pub fn header_in(b: &[u32]) -> Header
+    ensures { λ r. ⌜ r ≡ headerIn (now (b .entry)) ⌝ }
+{
+    let count = at_most_16(word_at(b, 1));
+    let unit = at_most_8(word_at(b, 2));
+    let transaction = at_most_16(word_at(b, 3));
+    Header {
+        count,
+        unit,
+        transaction,
+    }
+}
+
+fn request_in(b: &[u32]) -> Request
+    ensures { λ r. ⌜ r ≡ requestIn (now (b .entry)) ⌝ }
+{
+    let size = size_in(word_at(b, 4));
+    let address = Address(word_at(b, 5));
+    Request { size, address }
+}
+
+pub fn command_in(b: &[u32]) -> Decoded
+    ensures { λ r. ⌜ r ≡ commandIn (now (b .entry)) ⌝ }
+{
+    let code = word_at(b, 0);
+    match code {
+        0 => Decoded::Known(Command::Dump(request_in(b))),
+        1 => Decoded::Known(Command::Cancel),
+        4 => Decoded::Known(Command::Load(request_in(b))),
+        7 => Decoded::Known(Command::PoolStatistics(at_most_16(word_at(b, 6)))),
+        _ => Decoded::Unknown,
+    }
+}
+
+pub fn data_in(b: &[u32]) -> [u32; 11]
+    ensures { λ r. ⌜ r ≡ dataIn (now (b .entry)) ⌝ }
+{
+    let mut words = [0u32; 11];
+    let mut i: usize = 0;
+    while i < 11 {
+        words[i] = word_at(b, 7 + i);
+        i += 1;
+    }
+    words
+}
+
+// A COMMAND AS WORDS
+
+fn code_word(k: Command) -> u32
+    ensures { λ r. ⌜ r ≡ codeOf k ⌝ }
+{
+    match k {
+        Command::Dump(_) => 0,
+        Command::Cancel => 1,
+        Command::Load(_) => 4,
+        Command::PoolStatistics(_) => 7,
+    }
+}
+
+fn body_words(k: Command) -> [u32; 3]
+    ensures { λ r. ⌜ r ≡ bodyWords k ⌝ }
+{
+    match k {
+        Command::Dump(q) => [q.size as u32, q.address.0, 0],
+        Command::Cancel => [0; 3],
+        Command::Load(q) => [q.size as u32, q.address.0, 0],
+        Command::PoolStatistics(i) => [0, 0, i as u32],
+    }
+}
+
+pub fn head_words(f: Telecommand) -> [u32; 7]
+    ensures { λ r. ⌜ r ≡ headWords f ⌝ }
+{
+    let k = f.command;
+    let code = code_word(k);
+    let body = body_words(k);
+    [
+        code,
+        f.header.count as u32,
+        f.header.unit as u32,
+        f.header.transaction as u32,
+        body[0],
+        body[1],
+        body[2],
+    ]
+}
+
+// A DUMP PACKET AS WORDS
+
+pub fn field_words(f: DumpPacket) -> [u32; 8]
+    ensures { λ r. ⌜ r ≡ fieldWords f ⌝ }
+{
+    [
+        f.header.count as u32,
+        f.header.unit as u32,
+        f.header.transaction as u32,
+        f.tick,
+        f.range.start.0,
+        f.range.words,
+        f.here.0,
+        f.words,
+    ]
+}

@@ -1,0 +1,234 @@
+/* Hostile input for the exported calls. An input is a list of steps on one state block and one image; each step is a byte that names it, then
+ * what it takes. Every lent buffer is a heap block of its own, just as long as is said to the call, so that AddressSanitizer has red zones at
+ * both ends; the library's own code is instrumented too (fuzz/run). Beside that, each call's refusals are held to the header: the number is
+ * one of the call's, and a refusal leaves every lent buffer as it was. */
+#include "../c/leatgarnet.h"
+#include <stdlib.h>
+#include <string.h>
+
+static const uint8_t *in;
+static size_t left;
+
+static uint32_t byte(void)
+{
+    return left ? left--, *in++ : 0;
+}
+
+static uint32_t half(void)
+{
+    uint32_t high = byte();
+    return high << 8 | byte();
+}
+
+static uint32_t word(void)
+{
+    uint32_t high = half();
+    return high << 16 | half();
+}
+
+static void must(int holds)
+{
+    if (!holds)
+        abort();
+}
+
+/* A lent buffer, and what it held before the call. */
+struct lent {
+    void *now, *before;
+    size_t bytes;
+};
+
+static struct lent lend(size_t bytes)
+{
+    struct lent b = { malloc(bytes), malloc(bytes), bytes };
+    must(b.now && b.before);
+    memset(b.now, 0xA5, bytes);
+    return b;
+}
+
+static void give_back(struct lent b)
+{
+    free(b.now), free(b.before);
+}
+
+static void keep(struct lent b)
+{
+    memcpy(b.before, b.now, b.bytes);
+}
+
+static int same(struct lent b)
+{
+    return memcmp(b.before, b.now, b.bytes) == 0;
+}
+
+/* The length that fits, or one near it: the input says how far off. */
+static size_t near(size_t fits)
+{
+    long n = (long)fits + (int8_t)byte();
+    return n < 0 ? 0 : (size_t)n;
+}
+
+static struct lent words(size_t n)
+{
+    struct lent b = lend(4 * n);
+    for (size_t i = 0; i < n; i++)
+        ((uint32_t *)b.now)[i] = word();
+    return b;
+}
+
+static struct lent bytes(size_t n)
+{
+    struct lent b = lend(n);
+    for (size_t i = 0; i < n; i++)
+        ((uint8_t *)b.now)[i] = (uint8_t)byte();
+    return b;
+}
+
+static struct lent state, image;
+
+static void start(void)
+{
+    struct lent table = words(near(LG_TABLE_WORDS));
+    keep(table), keep(state);
+    uint32_t number = lg_start_up(table.now, table.bytes / 4, state.now, state.bytes / 4);
+    must(number == 0 || number == 17);
+    must(same(table));
+    give_back(table);
+}
+
+/* A header, a length field and a check byte that are right, around what the input has. */
+static void make_right(struct lent packet)
+{
+    uint8_t *p = packet.now, all = 0xFF;
+    if (packet.bytes < 8)
+        return;
+    p[0] = 0x1E, p[1] = 0x44, p[2] |= 0xC0, p[4] = (uint8_t)((packet.bytes - 7) >> 8), p[5] = (uint8_t)(packet.bytes - 7), p[6] &= 0x7F, p[7] = 0;
+    for (size_t i = 0; i < packet.bytes; i++)
+        all ^= p[i];
+    p[7] = all;
+}
+
+static void command(int right)
+{
+    struct lent packet = bytes(byte()), reply = lend(near(32));
+    uint32_t length = 99;
+    if (right)
+        make_right(packet);
+    keep(packet), keep(reply), keep(state), keep(image);
+    uint32_t number = lg_command(state.now, state.bytes / 4, packet.now, packet.bytes, image.now, image.bytes / 4, reply.now, reply.bytes, &length);
+    must(number <= 15);
+    must(same(packet));
+    must(length == 0 || (number == 0 && length == 32));
+    must(number == 0 || (same(reply) && same(image)));
+    if (number != 0 && state.bytes == 4 * LG_STATE_WORDS) {
+        int counted = !(number <= 3 || number == 5 || number == 8);
+        uint32_t *before = state.before;
+        before[78] = counted ? (before[78] + 1) % 65536 : before[78];
+        must(same(state));
+    }
+    give_back(packet), give_back(reply);
+}
+
+static void slot(void)
+{
+    struct lent buffer = lend(near(4092));
+    uint32_t length = 99, tick = word();
+    keep(buffer), keep(state), keep(image);
+    uint32_t number = lg_slot(state.now, state.bytes / 4, tick, image.now, image.bytes / 4, buffer.now, buffer.bytes, &length);
+    must(number <= 3 || number == 16);
+    must(same(image));
+    must(number == 0 ? length >= 32 && length <= 4092 : length == 0 && same(buffer) && same(state));
+    if (number == 0) {
+        uint32_t fields[LG_PACKET_WORDS], data_bytes;
+        must(lg_read_packet(buffer.now, length, fields, LG_PACKET_WORDS, &data_bytes) == 0 && fields[3] == tick && data_bytes == length - 28);
+    }
+    give_back(buffer);
+}
+
+static void write_command(void)
+{
+    struct lent block = words(near(LG_COMMAND_WORDS)), buffer = lend(byte());
+    uint32_t length = 99;
+    keep(block), keep(buffer);
+    uint32_t number = lg_write_command(block.now, block.bytes / 4, buffer.now, buffer.bytes, &length);
+    must(number == 0 || number == 3 || number == 6 || number == 9);
+    must(same(block));
+    must(number == 0 ? length <= buffer.bytes : length == 0 && same(buffer));
+    if (number == 0) {
+        uint32_t again[LG_COMMAND_WORDS];
+        must(lg_read_command(buffer.now, length, again, LG_COMMAND_WORDS) == 0 && memcmp(again, block.now, 16) == 0);
+    }
+    give_back(block), give_back(buffer);
+}
+
+static void read_command(int right)
+{
+    struct lent packet = bytes(byte()), block = lend(4 * near(LG_COMMAND_WORDS));
+    if (right)
+        make_right(packet);
+    keep(packet), keep(block);
+    uint32_t number = lg_read_command(packet.now, packet.bytes, block.now, block.bytes / 4);
+    must(number == 0 || (number >= 3 && number <= 7) || number == 9);
+    must(same(packet));
+    must(number == 0 || same(block));
+    give_back(packet), give_back(block);
+}
+
+static void read_packet(void)
+{
+    struct lent packet = bytes(half() % 4200), block = lend(4 * near(LG_PACKET_WORDS));
+    uint32_t data_bytes = 99;
+    keep(packet), keep(block);
+    uint32_t number = lg_read_packet(packet.now, packet.bytes, block.now, block.bytes / 4, &data_bytes);
+    must(number == 0 || number == 3 || number == 4 || number == 5 || number == 7 || number == 9);
+    must(same(packet));
+    must(number == 0 ? data_bytes == packet.bytes - 28 : data_bytes == 0 && same(block));
+    give_back(packet), give_back(block);
+}
+
+/* Another state block, of any length and content. */
+static void other_state(void)
+{
+    give_back(state);
+    state = words(near(LG_STATE_WORDS));
+}
+
+/* One word of the state block. */
+static void poke(void)
+{
+    uint32_t at = byte(), value = word();
+    if (at < state.bytes / 4)
+        ((uint32_t *)state.now)[at] = value;
+}
+
+/* Another image: so many words, the first of them from the input. */
+static void other_image(void)
+{
+    size_t n = half(), given = byte();
+    give_back(image);
+    image = lend(4 * n);
+    for (size_t i = 0; i < n; i++)
+        ((uint32_t *)image.now)[i] = i < given ? word() : (uint32_t)i;
+}
+
+int LLVMFuzzerTestOneInput(const uint8_t *data, size_t size)
+{
+    in = data, left = size;
+    state = lend(4 * LG_STATE_WORDS), image = lend(0);
+    for (int steps = 0; left && steps < 64; steps++)
+        switch (byte() % 11) {
+        case 0: start(); break;
+        case 1: command(0); break;
+        case 2: command(1); break;
+        case 3: slot(); break;
+        case 4: write_command(); break;
+        case 5: read_command(0); break;
+        case 6: read_command(1); break;
+        case 7: read_packet(); break;
+        case 8: other_state(); break;
+        case 9: poke(); break;
+        case 10: other_image(); break;
+        }
+    give_back(state), give_back(image);
+    return 0;
+}
