@@ -1,10 +1,18 @@
-/* The C interface of the memory service (paper 01). Nothing is allocated and nothing is kept between calls: all state is in the block that
- * the caller lends. Lent buffers must not overlap. A pointer may be anything where its length is 0; the pointer to a length that a call sets
- * must always point to a word. Each call returns a result number. */
+/* The C interface of the memory service (paper 01), for x86-64. Nothing is allocated and nothing is kept between calls: all state is in the block
+ * that the caller lends. Each call returns a result number of the paper. What a call asks of its caller:
+ *   - a pointer and its length say what is lent; a length of 0 lends nothing, and its pointer may be anything;
+ *   - words are aligned to 4 bytes;
+ *   - the pointer to a length that a call sets points to a word;
+ *   - no two of all these overlap, the word of a length included.
+ * All else is the call's to test: any content, any length. A refusal changes nothing but that length, which becomes 0, a refused count where the
+ * paper says so, and the state that start-up gives with 17. */
 #ifndef LEATGARNET_H
 #define LEATGARNET_H
 #include <stddef.h>
 #include <stdint.h>
+#ifdef __cplusplus
+extern "C" {
+#endif
 
 /* THE STATE BLOCK: 79 words of 32 bits, in the machine's byte order.
  *   0        number of regions in use
@@ -16,33 +24,36 @@
  *   74       last place served
  *   75, 76   packet counts of APID 785 and of APID 788
  *   77, 78   accepted and refused counts
- * Any content is a handed-in state. A block of another length, or one with a word out of these bounds (rights over 3, busy over 1, an idle
- * place that is not five zeros, unit or last over 255, transaction or a count over 65,535), is no state at all: number 1. */
+ * lg_command and lg_slot answer 1 to a block that is no good state: of another length, with a word that its field can't hold (rights over 3, in an
+ * entry that is not in use too; busy over 1; an idle place that is not five zeros; unit or last over 255; transaction or a count over 65,535), or
+ * with a state that breaks a rule of the paper. */
 #define LG_STATE_WORDS 79
 
 /* THE TABLE BLOCK, for start-up: 54 words.
  *   0 unit; 1 number of regions; 2..5 pools 0 and 1: start, size; 6..53 sixteen regions: start, size, rights, as in the state. */
 #define LG_TABLE_WORDS 54
 
-/* 0 and the fresh state in `state`, or 17 and the state of zero regions. 17 too, with nothing written, if a block has another length, and 17
- * (with the state of zero regions) if a word of the table block is out of its bounds (rights over 3, unit over 255). */
+/* 0 and the fresh state in `state`, with zeros in the entries that are not in use; or 17 and the state of zero regions, which is zeros but for 3 in
+ * word 74. A table with a word that its field can't hold (rights over 3, in any entry; unit over 255) gives 17 so too. If a block has another
+ * length: 17, and nothing is written. */
 uint32_t lg_start_up(const uint32_t *table, size_t table_words, uint32_t *state, size_t state_words);
 
-/* Numbers 0 to 15. `reply_length` is set to the bytes written to `reply`: 32 after pool statistics, else 0. */
+/* Numbers 0 to 15. `reply` has at least 32 bytes for every command, else 3. `reply_length` is set to the bytes written to it: 32 after pool
+ * statistics, else 0. */
 uint32_t lg_command(uint32_t *state, size_t state_words, const uint8_t *packet, size_t packet_bytes, uint32_t *image, size_t image_words,
                     uint8_t *reply, size_t reply_bytes, uint32_t *reply_length);
 
-/* Numbers 0, 1, 2, 3 and 16. `length` is set to the bytes of the packet in `buffer`, 0 if refused. */
+/* Numbers 0, 1, 2, 3 and 16. `buffer` has at least 4,092 bytes, else 3. `length` is set to the bytes of the packet in it, 0 if refused. */
 uint32_t lg_slot(uint32_t *state, size_t state_words, uint32_t tick, const uint32_t *image, size_t image_words, uint8_t *buffer,
                  size_t buffer_bytes, uint32_t *length);
 
 /* THE COMMAND BLOCK: 18 words: function code, sequence count, unit, transaction, size, address, pool, and eleven data words. Words that the
- * code does not use are not read when writing, and 0 when read. */
+ * code does not use are not read when writing, and 0 when read. A load's data words beyond its size are written as 0, and read as they stand in
+ * the packet. */
 #define LG_COMMAND_WORDS 18
 
-/* 0 and the packet at the start of `buffer`, its bytes in `length`; 6 for another code than 0, 1, 4 or 7; 3 if the buffer is shorter than the
- * packet (or the block has another length, before all else); 9 for a field out of its bounds (a size or pool over 65,535 too). `length` is 0
- * and nothing is written if refused. */
+/* 0 and the packet at the start of `buffer`, its bytes in `length`. Else, in this order: 3 if the block has another length; 6 for another code than
+ * 0, 1, 4 or 7; 3 if the buffer is shorter than the packet; 9 for a field out of its bounds (a size or pool over 65,535 too). */
 uint32_t lg_write_command(const uint32_t *command, size_t command_words, uint8_t *buffer, size_t buffer_bytes, uint32_t *length);
 
 /* 0 and the fields in `command`; 3 if the block has another length, before all else; 4, 5, 6, 7 or 9, and `command` unchanged. */
@@ -55,4 +66,7 @@ uint32_t lg_read_command(const uint8_t *packet, size_t packet_bytes, uint32_t *c
 /* 0 and the fields in `fields`; 3 if the block has another length, before all else; 4, 5, 7 or 9, and `fields` unchanged. */
 uint32_t lg_read_packet(const uint8_t *packet, size_t packet_bytes, uint32_t *fields, size_t fields_words, uint32_t *data_bytes);
 
+#ifdef __cplusplus
+}
+#endif
 #endif

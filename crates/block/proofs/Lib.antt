@@ -4,3 +4,4 @@ pub mod Lengths
 pub mod Words
 pub mod Back
 pub mod Forth
+pub mod WordsAt

@@ -3,6 +3,8 @@ ghost use mathlib.Core.Path.{_≡_};
 ghost use Prim.Native.Nat.{_<_};
 ghost use Rattle.block.specs.Blocks.{word, regionsBounds, placeBounds, placesBounds, countsBounds, isBlock, isTable};
 ghost use Rattle.block.specs.RoundTrip.{RoundTrip};
+ghost use Rattle.block.specs.Layout.{Layout};
+ghost use Rattle.rules.specs.declared.State.{State};
 
 // Word `i`, and 0 past the end.
 pub fn word_at(b: &[u32], i: usize) -> u32
@@ -76,4 +78,9 @@ pub fn is_table(b: &[u32]) -> bool
 // A state's block gives the state back, and a block that is a state is that state's block.
 pub fn round_trip()
     ensures { λ r. ⌜ RoundTrip ⌝ }
+{}
+
+// What each word of a state's block is.
+pub fn block_layout()
+    ensures { λ r. ⌜ ((s : State) → Layout s) ⌝ }
 {}

@@ -3,6 +3,7 @@ ghost use mathlib.Core.Path.{_≡_};
 ghost use Prim.Native.Nat.{min};
 ghost use Rattle.rules.specs.Packets.{codeOf};
 ghost use Rattle.ground_blocks.specs.Fields.{headerIn, sizeIn, requestIn, commandIn, dataIn, bodyWords, headWords, fieldWords};
+ghost use Rattle.ground_blocks.specs.RoundTrip.{CommandRoundTrip};
 use block::word_at;
 use rules::Address;
 use rules::Command;
@@ -135,3 +136,8 @@ pub fn field_words(f: DumpPacket) -> [u32; 8]
         f.words,
     ]
 }
+
+// The words of a command give the command back.
+pub fn command_round_trip()
+    ensures { λ r. ⌜ CommandRoundTrip ⌝ }
+{}
