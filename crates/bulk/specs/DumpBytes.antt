@@ -1,7 +1,9 @@
 -- A dump packet's bytes from its fields, as `packetBytes` of rules lays them down, and when they fit.
 use mathlib.Core.Path.{_≡_}
+use mathlib.Core.Bool.{Bool, _&&_}
 use mathlib.Core.List.{List, _++_}
 use Prim.Native.Nat.{ℕ, _+_, _*_, _≤_}
+use lib.Dec.{leb, eqb}
 use lib.ListN.{length}
 use Rattle.wire.specs.Bytes.{be, wordBytes}
 use Rattle.rules.specs.Regions.{startOf}
@@ -30,3 +32,9 @@ pub record PacketFits (f : DumpPacket) (ws buffer : List ℕ) : Type 0 where
   pub most : length ws ≤ 1016
   pub words : f .words ≡ length ws
   pub room : packetHeader + 4 * length ws ≤ length buffer
+
+-- the same as a test, of n words and a buffer of `room` bytes
+abbrev pub packetFits : DumpPacket → ℕ → ℕ → Bool
+packetFits f n room =
+    leb (f .header .count) 16383 && leb (f .header .unit) 15 && leb (f .header .transaction) 4095 && leb n 1016 && eqb (f .words) n
+    && leb (packetHeader + 4 * f .words) room

@@ -1,13 +1,15 @@
-// The bulk work: a dump packet written into a buffer, and a load written into the image.
+// The bulk work: a dump packet written into a buffer, a load written into the image, and words cut out of it.
 ghost use mathlib.Core.Path.{_≡_};
-ghost use mathlib.Core.List.{reverse};
-ghost use Prim.Native.Nat.{_+_, _*_, _≤_};
-ghost use lib.ListN.{length, take};
+ghost use mathlib.Core.Bool.{true, false};
+ghost use mathlib.Core.List.{[], reverse};
+ghost use Prim.Native.Nat.{_+_, _*_, _≤_, _<_, min};
+ghost use lib.ListN.{length, take, drop};
 ghost use Rattle.lists.specs.Splice.{splice};
 ghost use Rattle.wire.specs.Bytes.{be, beAt, wordBytes};
 ghost use Rattle.rules.specs.Packets.{dataWords};
-ghost use Rattle.bulk.specs.DumpBytes.{headBytes, dumpPacketBytes, PacketFits};
+ghost use Rattle.bulk.specs.DumpBytes.{headBytes, dumpPacketBytes, PacketFits, packetFits};
 use rules::DumpPacket;
+use rules::WordIndex;
 use wire::get32;
 use wire::wide32;
 
@@ -45,62 +47,38 @@ fn put_words(buffer: &mut [u8], at: usize, words: &[u32])
     }
 }
 
-// The header of a dump packet.
-fn head_bytes(f: DumpPacket) -> [u8; 28]
+// The header of a dump packet, as seven words.
+fn head_words(f: DumpPacket) -> [u32; 7]
     requires { ⌜ (f .header .count ≤ 16383) × (f .header .unit ≤ 15) × (f .header .transaction ≤ 4095) × (f .words ≤ 1016) ⌝ }
-    ensures { λ r. ⌜ r ≡ headBytes f (f .words) ⌝ }
+    ensures { λ r. ⌜ wordBytes r ≡ headBytes f (f .words) ⌝ }
 {
-    let count = 49152 + f.header.count;
-    let unit = f.header.unit as u16;
-    let id = 4096 * unit + f.header.transaction;
-    let tick = f.tick;
+    let count = 49152 + f.header.count as u32;
+    let size = 28 + 4 * f.words - 7;
+    let id = 4096 * f.header.unit as u32 + f.header.transaction as u32;
     let start = f.range.start.0;
-    let asked = f.range.words;
     let here = f.here.0;
-    let words = f.words;
-    let size = 28 + 4 * words - 7;
     [
-        3,
-        20,
-        (count / 256 % 256) as u8,
-        (count % 256) as u8,
-        (size / 256 % 256) as u8,
-        (size % 256) as u8,
-        (id / 256 % 256) as u8,
-        (id % 256) as u8,
-        (tick / 256 / 256 / 256 % 256) as u8,
-        (tick / 256 / 256 % 256) as u8,
-        (tick / 256 % 256) as u8,
-        (tick % 256) as u8,
-        (start / 256 / 256 / 256 % 256) as u8,
-        (start / 256 / 256 % 256) as u8,
-        (start / 256 % 256) as u8,
-        (start % 256) as u8,
-        (asked / 256 / 256 / 256 % 256) as u8,
-        (asked / 256 / 256 % 256) as u8,
-        (asked / 256 % 256) as u8,
-        (asked % 256) as u8,
-        (here / 256 / 256 / 256 % 256) as u8,
-        (here / 256 / 256 % 256) as u8,
-        (here / 256 % 256) as u8,
-        (here % 256) as u8,
-        (words / 256 / 256 / 256 % 256) as u8,
-        (words / 256 / 256 % 256) as u8,
-        (words / 256 % 256) as u8,
-        (words % 256) as u8,
+        788 * 65536 + count,
+        size * 65536 + id,
+        f.tick,
+        start,
+        f.range.words,
+        here,
+        f.words,
     ]
 }
 
-// The bytes of `from`, at the start of the buffer.
-fn put_bytes(buffer: &mut [u8], from: &[u8])
-    requires { ⌜ length (now from) ≤ length (now buffer) ⌝ }
-    ensures { λ _. ⌜ now (buffer .exit) ≡ splice (now (buffer .entry)) 0 (now (from .entry)) ⌝ }
+// Whether each field fits its bits, and the packet holds n words and fits a buffer of `room` bytes.
+fn packet_fits(f: DumpPacket, n: usize, room: usize) -> bool
+    ensures { λ r. ⌜ r ≡ packetFits f n room ⌝ }
 {
-    let mut i = 0;
-    while i < from.len() {
-        buffer[i] = from[i];
-        i += 1;
-    }
+    let words = f.words as usize;
+    (f.header.count <= 16383)
+        & (f.header.unit <= 15)
+        & (f.header.transaction <= 4095)
+        & (n <= 1016)
+        & (words == n)
+        & (28 + 4 * words <= room)
 }
 
 // A dump packet at the start of the buffer. Where it does not fit, nothing is written.
@@ -109,26 +87,11 @@ pub fn put_packet(buffer: &mut [u8], f: DumpPacket, words: &[u32])
         (PacketFits f (now (words .entry)) (now (buffer .entry)) → now (buffer .exit) ≡ splice (now (buffer .entry)) 0 (dumpPacketBytes f (now (words .entry))))
         × ((PacketFits f (now (words .entry)) (now (buffer .entry)) → ⊥) → now (buffer .exit) ≡ now (buffer .entry)) ⌝ }
 {
-    if 16383 < f.header.count {
+    if !packet_fits(f, words.len(), buffer.len()) {
         return;
     }
-    if 15 < f.header.unit {
-        return;
-    }
-    if 4095 < f.header.transaction {
-        return;
-    }
-    if 1016 < words.len() {
-        return;
-    }
-    if f.words as usize != words.len() {
-        return;
-    }
-    if buffer.len() < 28 + 4 * words.len() {
-        return;
-    }
-    let head = head_bytes(f);
-    put_bytes(buffer, &head);
+    let head = head_words(f);
+    put_words(buffer, 0, &head);
     put_words(buffer, 28, words);
 }
 
@@ -145,33 +108,67 @@ fn word_at(packet: &[u8], at: usize) -> u32
     (high * 256 + wide32(packet[at + 2])) * 256 + wide32(packet[at + 3])
 }
 
-// The first n words of a load packet's data, from index `at` of the image on.
-fn store_run(image: &mut [u32], at: usize, packet: &[u8], n: usize)
-    requires { ⌜ (n ≤ 11) × (at + n ≤ length (now image)) ⌝ }
-    ensures { λ _. ⌜ now (image .exit) ≡ splice (now (image .entry)) at (take n (dataWords (now (packet .entry)))) ⌝ }
+// Whether an image of that length has n words from index `at` on.
+fn has_words(length: usize, at: WordIndex, n: usize) -> bool
+    ensures { λ r. ⌜ (r ≡ true → at .0 + n ≤ length) × (r ≡ false → length < at .0 + n) ⌝ }
 {
+    let from = at.0;
+    if length < from {
+        return false;
+    }
+    n <= length - from
+}
+
+// The first n words of a load packet's data, from index `at` of the image on.
+fn store_run(image: &mut [u32], at: WordIndex, packet: &[u8], n: usize)
+    requires { ⌜ (n ≤ 11) × (at .0 + n ≤ length (now image)) ⌝ }
+    ensures { λ _. ⌜ now (image .exit) ≡ splice (now (image .entry)) (at .0) (take n (dataWords (now (packet .entry)))) ⌝ }
+{
+    let from = at.0;
     let mut i = 0;
     while i < n {
         let w = word_at(packet, 16 + 4 * i);
-        image[at + i] = w;
+        image[from + i] = w;
         i += 1;
     }
 }
 
 // The first n words of a load packet's data, from index `at` of the image on. Where they do not fit, nothing is written.
-pub fn store_words(image: &mut [u32], at: usize, packet: &[u8], n: usize)
+pub fn store_words(image: &mut [u32], at: WordIndex, packet: &[u8], n: usize)
     ensures { λ _. ⌜
-        (n ≤ 11 → at + n ≤ length (now (image .entry)) → now (image .exit) ≡ splice (now (image .entry)) at (take n (dataWords (now (packet .entry)))))
-        × ((n ≤ 11 → at + n ≤ length (now (image .entry)) → ⊥) → now (image .exit) ≡ now (image .entry)) ⌝ }
+        (n ≤ 11 → at .0 + n ≤ length (now (image .entry)) → now (image .exit) ≡ splice (now (image .entry)) (at .0) (take n (dataWords (now (packet .entry)))))
+        × ((n ≤ 11 → at .0 + n ≤ length (now (image .entry)) → ⊥) → now (image .exit) ≡ now (image .entry)) ⌝ }
 {
     if 11 < n {
         return;
     }
-    if image.len() < at {
-        return;
-    }
-    if image.len() - at < n {
+    if !has_words(image.len(), at, n) {
         return;
     }
     store_run(image, at, packet, n);
+}
+
+// The word n words on. Where there is none, the last index: no image has a word there.
+pub fn word_after(at: WordIndex, n: usize) -> WordIndex
+    ensures { λ r. ⌜ r .0 ≡ min (at .0 + n) 18446744073709551615 ⌝ }
+{
+    let from = at.0;
+    if 18446744073709551615 - from < n {
+        return WordIndex(18446744073709551615);
+    }
+    WordIndex(from + n)
+}
+
+// The n words of the image from index `at` on. Where it does not have them all, none.
+pub fn words_at(image: &[u32], at: WordIndex, n: usize) -> &[u32]
+    ensures { λ r. ⌜
+        (at .0 + n ≤ length (now (image .entry)) → now r ≡ take n (drop (at .0) (now (image .entry))))
+        × ((at .0 + n ≤ length (now (image .entry)) → ⊥) → now r ≡ []) ⌝ }
+{
+    if !has_words(image.len(), at, n) {
+        return &image[0..0];
+    }
+    let start = at.0;
+    let end = start + n;
+    &image[start..end]
 }

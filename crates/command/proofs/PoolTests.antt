@@ -4,7 +4,7 @@ use mathlib.Core.Path.{_≡_, refl, sym, ap, _∙_}
 use mathlib.Core.Logic.{_≢_}
 use mathlib.Core.Bool.{true}
 use mathlib.Core.List.{List, [], _∷_}
-use Prim.Native.Nat.{ℕ, _≤_, _+_, _-_}
+use Prim.Native.Nat.{ℕ, _≤_, _+_}
 use native.Mathlib.Omega.{arith}
 use lib.Dec.{eqb}
 use lib.ListN.{length, take, drop}
@@ -53,15 +53,13 @@ module _ (s : State) (a : Range) (image : List ℕ) (ready : Ready s a image) (x
     same-index : imageIndex (s .regions) (s .count) a .0 ≡ y .index .0
     same-index = ap (λ (z : Spot). z .index .0) (lookup-some (s .regions) (s .count) a (sym (ex (count-low s (ready .0))) ∙ e) .1)
 
-    pub pool-fits : y .index .0 + a .words ≤ length image
+    pool-fits : y .index .0 + a .words ≤ length image
     pool-fits = let f = image-fits (s .regions) (s .count) a (ready .1) in let i = same-index in let l = ready .2 in omega arith
 
-    pub pool-part : {w : Walked} → w ≡ walkedOf (blocksOf (take (y .index .0 + a .words - y .index .0) (drop (y .index .0) image)))
-        → w ≡ walkedOf (blocksOf (wordsOf (s .regions) (s .count) a image))
+    pub pool-part : {ws : List ℕ} {w : Walked} → (y .index .0 + a .words ≤ length image → ws ≡ take (a .words) (drop (y .index .0) image))
+        → w ≡ walkedOf (blocksOf ws) → w ≡ walkedOf (blocksOf (wordsOf (s .regions) (s .count) a image))
     unfolding wordsOf
-    pool-part h =
-        let n : y .index .0 + a .words - y .index .0 ≡ a .words = omega arith in
-        h ∙ rw (n, same-index)
+    pool-part e h = h ∙ rw (e pool-fits, same-index)
 
 -- THE TESTS
 

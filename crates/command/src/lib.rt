@@ -15,6 +15,7 @@ ghost use Rattle.rules.specs.declared.Decoded.the-variants.{Known};
 ghost use Rattle.pool.specs.Answers.{walkedOf};
 ghost use Rattle.command.specs.Parts.{lent, outcomeOf, acceptedAs, frameRows, locateRows, spotOf, targetAs, countingAs, Opened, openRows};
 use bulk::store_words;
+use bulk::words_at;
 use packet::field_rules;
 use packet::packet_length;
 use packet::request_of;
@@ -284,7 +285,7 @@ fn load(s: State, packet: &[u8], image: &mut [u32]) -> Returned
     match target {
         Target::NoTarget(r) => refused(s, r),
         Target::In(spot) => {
-            store_words(image, spot.index.0, packet, q.size as usize);
+            store_words(image, spot.index, packet, q.size as usize);
             let places = s.places;
             accepted(s, places, s.replies, 0)
         }
@@ -302,9 +303,8 @@ fn pool_walked(s: State, range: Range, image: &[u32]) -> Walked
         // not where the range lies in a region
         Found::Nowhere => Walked::Damaged,
         Found::At(spot) => {
-            let from = spot.index.0;
-            let to = from + range.words as usize;
-            walk_pool(&image[from..to])
+            let words = words_at(image, spot.index, range.words as usize);
+            walk_pool(words)
         }
     }
 }

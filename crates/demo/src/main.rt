@@ -1,135 +1,56 @@
 // A pass of the memory service that a person can follow: start-up, a dump, a load, pool statistics, slots until the dump is whole, and
 // commands that are refused. Each packet is printed in hex with its fields named, each answer with what its number means.
-mod print;
-
-use command_reader::read_command;
 use command_writer::write_command;
-use packet_reader::read_packet;
-use print::answer;
-use print::bytes;
-use print::decimal;
-use print::dump_fields;
-use print::figures;
-use print::line;
-use print::refusal;
-use print::telecommand;
-use print::text;
+use report::front;
+use report::result;
+use report::say;
+use report::show_answer;
+use report::show_command;
+use results::answer_length;
 use rules::Address;
 use rules::Command;
 use rules::Header;
-use rules::PacketReading;
 use rules::Range;
-use rules::Reading;
 use rules::Region;
 use rules::Request;
+use rules::Returned;
 use rules::State;
-use rules::Verdict;
 
-// The first n bytes, or all where there are fewer.
-fn front(p: &[u8], n: usize) -> &[u8] {
-    if n < p.len() { &p[..n] } else { p }
+fn range(start: u32, words: u32) -> Range {
+    Range {
+        start: Address(start),
+        words,
+    }
 }
 
-// A region with both rights.
-fn region(start: u32, words: u32) -> Region {
-    Region {
-        range: Range {
-            start: Address(start),
-            words,
-        },
+// Two regions with both rights. The other entries are not in use.
+fn table() -> [Region; 16] {
+    let first = Region {
+        range: range(4096, 1017),
         load: true,
         dump: true,
-    }
+    };
+    let second = Region {
+        range: range(32768, 6),
+        load: true,
+        dump: true,
+    };
+    let mut regions = [first; 16];
+    regions[1] = second;
+    regions
 }
 
-fn request(size: u16, address: u32) -> Request {
-    Request {
-        size,
-        address: Address(address),
-    }
-}
-
-// Two regions; the second, of six words, is pool 1.
+// The second region is pool 1.
 fn start() -> State {
-    let none = Range {
-        start: Address(0),
-        words: 0,
-    };
-    let pool = Range {
-        start: Address(32768),
-        words: 6,
-    };
-    let mut regions = [region(0, 0); 16];
-    regions[0] = region(4096, 1017);
-    regions[1] = region(32768, 6);
-    let started = state::start_up(regions, 2, [none, pool], 2);
-    text(b"start-up: unit 2, 1017 words at 00001000, 6 words at 00008000, which are pool 1\n");
+    say(
+        b"start-up: unit 2, 1017 words at 00001000, 6 words at 00008000, which are pool 1",
+        0,
+        [0; 3],
+    );
+    let started = state::start_up(table(), 2, [range(0, 0), range(32768, 6)], 2);
     let verdict = started.verdict;
-    match verdict {
-        Verdict::Accepted => text(b"  0 done\n"),
-        Verdict::Rejected(r) => refusal(r),
-    }
+    result(results::verdict_number(verdict));
     started.state
-}
-
-// Writes a command's packet, reads it back, and gives it to the service.
-fn send(
-    s: State,
-    count: u16,
-    transaction: u16,
-    k: Command,
-    words: &[u32; 11],
-    image: &mut [u32],
-    reply: &mut [u8],
-) -> State {
-    let header = Header {
-        count,
-        unit: 2,
-        transaction,
-    };
-    let mut buffer = [0u8; 60];
-    let wrote = write_command(header, k, words, &mut buffer);
-    let p = front(&buffer, results::answer_length(wrote));
-    let read = read_command(p);
-    let reading = read.reading;
-    match reading {
-        Reading::Read(f) => telecommand(f),
-        Reading::Unread(r) => refusal(r),
-    }
-    bytes(p);
-    let done = command::command(s, p, image, reply);
-    let a = done.answer;
-    answer(a);
-    if results::answer_length(a) == 32 {
-        bytes(front(reply, 32));
-        figures(reply);
-    }
-    done.state
-}
-
-// One slot: the packet's fields, and its first bytes.
-fn slot(s: State, tick: u32, image: &[u32], buffer: &mut [u8]) -> State {
-    text(b"slot, tick ");
-    decimal(tick as u64);
-    line();
-    let done = slot::slot(s, tick, image, buffer);
-    let a = done.answer;
-    answer(a);
-    let p = front(buffer, results::answer_length(a));
-    if 0 < p.len() {
-        let reading = read_packet(p);
-        match reading {
-            PacketReading::Packet(f) => dump_fields(f),
-            PacketReading::NoPacket(r) => refusal(r),
-        }
-        bytes(front(p, 48));
-        if 48 < p.len() {
-            text(b"    and ");
-            decimal((p.len() - 48) as u64);
-            text(b" bytes more\n");
-        }
-    }
-    done.state
 }
 
 // The first region's words count up from 11111111 hex; the pool has a used block of two words and a free one of four.
@@ -145,68 +66,125 @@ fn memory() -> [u32; 1023] {
     image
 }
 
-fn commands(s: State, image: &mut [u32], reply: &mut [u8]) -> State {
-    let none = [0u32; 11];
-    let mut words = none;
-    words[0] = 16909060;
-    let s = send(
-        s,
+fn request(size: u16, address: u32) -> Request {
+    Request {
+        size,
+        address: Address(address),
+    }
+}
+
+// The command of a step. The second dump is past its region's end, and the dump that is cancelled is over.
+fn command_at(i: usize) -> Command {
+    match i {
+        0 => Command::Dump(request(1017, 4096)),
+        1 => Command::Load(request(1, 8160)),
+        2 => Command::PoolStatistics(1),
+        6 => Command::Dump(request(2, 8160)),
+        _ => Command::Cancel,
+    }
+}
+
+fn header_at(i: usize) -> Header {
+    match i {
+        0 => Header {
+            count: 0,
+            unit: 2,
+            transaction: 291,
+        },
+        1 => Header {
+            count: 1,
+            unit: 2,
+            transaction: 2748,
+        },
+        2 => Header {
+            count: 2,
+            unit: 2,
+            transaction: 292,
+        },
+        6 => Header {
+            count: 3,
+            unit: 2,
+            transaction: 293,
+        },
+        _ => Header {
+            count: 4,
+            unit: 2,
+            transaction: 291,
+        },
+    }
+}
+
+// Writes the packet of a step's command, and says how long it is.
+fn write(i: usize, packet: &mut [u8; 60]) -> usize {
+    let words = [16909060, 0, 0, 0, 0, 0, 0, 0, 0, 0, 0];
+    answer_length(write_command(header_at(i), command_at(i), &words, packet))
+}
+
+// Shows what a step does: a slot at a tick, or a command, whose packet it writes. Says how long the packet is.
+fn prepare(i: usize, tick: u32, packet: &mut [u8; 60]) -> usize {
+    if (3 <= i) & (i < 6) {
+        say(b"\nslot, tick %", 0, [tick as u64, 0, 0]);
+        return 0;
+    }
+    let n = write(i, packet);
+    show_command(front(packet, n));
+    n
+}
+
+// The command call with a packet of n bytes, or the slot call where n is 0.
+fn serve(
+    s: State,
+    packet: &[u8; 60],
+    n: usize,
+    tick: u32,
+    image: &mut [u32; 1023],
+    buffer: &mut [u8; 4092],
+) -> Returned {
+    if 0 < n {
+        return command::command(s, front(packet, n), image, buffer);
+    }
+    slot::slot(s, tick, image, buffer)
+}
+
+// The same, with its answer shown.
+fn turn(
+    s: State,
+    packet: &[u8; 60],
+    n: usize,
+    tick: u32,
+    image: &mut [u32; 1023],
+    buffer: &mut [u8; 4092],
+) -> State {
+    let done = serve(s, packet, n, tick, image, buffer);
+    let a = done.answer;
+    show_answer(a, buffer);
+    done.state
+}
+
+fn totals(s: State) {
+    say(
+        b"\naccepted %, refused %\n",
         0,
-        291,
-        Command::Dump(request(1017, 4096)),
-        &none,
-        image,
-        reply,
+        [s.accepted as u64, s.refused as u64, 0],
     );
-    send(
-        s,
-        1,
-        2748,
-        Command::Load(request(1, 8160)),
-        &words,
-        image,
-        reply,
-    )
 }
 
-fn statistics(s: State, image: &mut [u32], reply: &mut [u8]) -> State {
-    let none = [0u32; 11];
-    send(s, 2, 292, Command::PoolStatistics(1), &none, image, reply)
-}
-
-fn slots(s: State, image: &[u32], buffer: &mut [u8]) -> State {
-    let s = slot(s, 5, image, buffer);
-    let s = slot(s, 6, image, buffer);
-    slot(s, 7, image, buffer)
-}
-
-// A range past its region's end, and a cancel of a dump that is over.
-fn refusals(s: State, image: &mut [u32], reply: &mut [u8]) -> State {
-    let none = [0u32; 11];
-    let s = send(
-        s,
-        3,
-        293,
-        Command::Dump(request(2, 8160)),
-        &none,
-        image,
-        reply,
-    );
-    send(s, 4, 291, Command::Cancel, &none, image, reply)
+// Eight steps: three commands, three slots at ticks 5 to 7, two commands.
+fn pass(image: &mut [u32; 1023], buffer: &mut [u8; 4092]) {
+    let mut packet = [0u8; 60];
+    let mut s = start();
+    let mut i: usize = 0;
+    while i < 8 {
+        let tick = i as u32 + 2;
+        let n = prepare(i, tick, &mut packet);
+        s = turn(s, &packet, n, tick, image, buffer);
+        i += 1;
+    }
+    totals(s);
 }
 
 fn main() {
     let mut image = memory();
-    let mut reply = [0u8; 32];
     let mut buffer = [0u8; 4092];
-    let s = start();
-    let s = commands(s, &mut image, &mut reply);
-    let s = statistics(s, &mut image, &mut reply);
-    let s = slots(s, &image, &mut buffer);
-    let s = refusals(s, &mut image, &mut reply);
-    text(b"accepted ");
-    decimal(s.accepted as u64);
-    text(b", refused ");
-    decimal(s.refused as u64);
-    line();
+    pass(&mut image, &mut buffer);
 }

@@ -1,2 +1,3 @@
 pub mod Below
 pub mod Splice
+pub mod ByIndex

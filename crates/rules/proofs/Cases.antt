@@ -10,12 +10,12 @@ use borrow.Author.Tests.{ltb-false, le-ltb, leb-true, le-leb, eqb-true, eqb-fals
 use Rattle.lists.proofs.Tests.{either, and-left, and-right, and-both, or-left}
 use Rattle.lists.proofs.Below.{any-of, any-at, none-of, none-at}
 use Rattle.rules.specs.Regions.{anyRight, loadRight, dumpRight}
-use Rattle.rules.specs.Packets.{functionCodeOf, decode, fieldRules, commandTransaction}
+use Rattle.rules.specs.Packets.{functionCodeOf, wellFormed, apidOf, decode, fieldRules, commandTransaction}
 use Rattle.rules.specs.Pools.{Block, Tiles, blocksOf, isDamaged}
-use Rattle.rules.specs.Results.{lentRows}
-use Rattle.rules.specs.Commands.{CommandArgs, isUnknown, isIdle, anyWith, anyIdle, commandRows}
+use Rattle.rules.specs.Results.{Row, lentRows}
+use Rattle.rules.specs.Commands.{CommandArgs, isUnknown, wrongLength, wrongField, isIdle, anyWith, anyIdle, commandRows}
 use Rattle.rules.specs.Slots.{SlotArgs, slotRows}
-use Rattle.rules.specs.Cases.{oneOf, NumberFree, NumberBusy, PlaceFree, AnyCommand, DumpCases, CancelCases, LoadCases, PoolCases, CommandCases, SlotCases}
+use Rattle.rules.specs.Cases.{applies, oneOf, LayoutCases, NumberFree, NumberBusy, PlaceFree, DumpCases, CancelCases, LoadCases, PoolCases, CommandCases, SlotCases}
 use Rattle.rules.specs.declared.State.{State}
 use Rattle.rules.proofs.Pools.{blocks-tiles, tiles-blocks}
 use Rattle.rules.proofs.Round.{any-busy-out, any-busy-in}
@@ -25,28 +25,28 @@ use Rattle.rules.proofs.GoodWhen.{region-when}
 
 -- ONE ROW: of the rows of a call only one has the number, so that its test alone decides
 
-row-passes : {P : Type 0} (b : Bool) → (b ≡ false) ↔ P → ((b || false) ≡ false) ↔ P
+pub row-passes : {P : Type 0} (b : Bool) → (b ≡ false) ↔ P → ((b || false) ≡ false) ↔ P
 row-passes b w = (λ h. w .0 (or-left b false h), λ p. let e = w .1 p in rw e)
 
 -- a row whose test is that a rule fails
-rule-passes : {P : Type 0} (b : Bool) → (b ≡ true) ↔ P → ((not b || false) ≡ false) ↔ P
+pub rule-passes : {P : Type 0} (b : Bool) → (b ≡ true) ↔ P → ((not b || false) ≡ false) ↔ P
 rule-passes b w = row-passes (not b) (λ h. w .0 (not-false b h), λ p. ap not (w .1 p))
 
 -- TESTS AND WHAT THEY SAY
 
-eqb-when : (x y : ℕ) → (eqb x y ≡ true) ↔ (x ≡ y)
+pub eqb-when : (x y : ℕ) → (eqb x y ≡ true) ↔ (x ≡ y)
 eqb-when x y = (eqb-true x y, eq-eqb x y)
 
-ltb-when : (x y : ℕ) → (ltb x y ≡ false) ↔ (y ≤ x)
+pub ltb-when : (x y : ℕ) → (ltb x y ≡ false) ↔ (y ≤ x)
 ltb-when x y = (ltb-false x y, le-ltb x y)
 
-leb-when : (x y : ℕ) → (leb x y ≡ true) ↔ (x ≤ y)
+pub leb-when : (x y : ℕ) → (leb x y ≡ true) ↔ (x ≤ y)
 leb-when x y = (leb-true x y, le-leb x y)
 
-and-when : {P Q : Type 0} (a b : Bool) → (a ≡ true) ↔ P → (b ≡ true) ↔ Q → ((a && b) ≡ true) ↔ (P × Q)
+pub and-when : {P Q : Type 0} (a b : Bool) → (a ≡ true) ↔ P → (b ≡ true) ↔ Q → ((a && b) ≡ true) ↔ (P × Q)
 and-when a b v w = (λ h. (v .0 (and-left a b h), w .0 (and-right a b h)), λ h. and-both (v .1 (h .0)) (w .1 (h .1)))
 
-all-when : {P Q R : Type 0} (a b c : Bool) → (a ≡ true) ↔ P → (b ≡ true) ↔ Q → (c ≡ true) ↔ R → ((a && b && c) ≡ true) ↔ (P × Q × R)
+pub all-when : {P Q R : Type 0} (a b c : Bool) → (a ≡ true) ↔ P → (b ≡ true) ↔ Q → (c ≡ true) ↔ R → ((a && b && c) ≡ true) ↔ (P × Q × R)
 all-when a b c u v w =
     let x = and-when (a && b) c (and-when a b u v) w in
     (λ h. let y = x .0 h in (y .0 .0, y .0 .1, y .1), λ h. x .1 ((h .0, h .1), h .2))
@@ -85,29 +85,37 @@ blocks-when : (ws : List ℕ) → (isDamaged (blocksOf ws) ≡ false) ↔ ((bs :
 blocks-when ws =
     (λ h. let u = undamaged (blocksOf ws) h in (u .0, blocks-tiles ws (u .0) (u .1)), λ h. ap isDamaged (tiles-blocks (h .1)))
 
+-- THE LAYOUT OF A COMMAND PACKET, in the rows of a call that tests it
+
+module _ (rows : List Row) (p : List ℕ)
+    (four : applies 4 rows ≡ (not (wellFormed p) || false))
+    (five : applies 5 rows ≡ (not (eqb (apidOf p) 1604) || false))
+    (six : applies 6 rows ≡ (isUnknown (decode p) || false))
+    (seven : applies 7 rows ≡ (wrongLength p (decode p) || false))
+    (nine : applies 9 rows ≡ (wrongField (decode p) || false)) where
+  pub layout-cases : LayoutCases rows p
+  unfolding fieldRules
+  layout-cases =
+      record {
+        formed = rw four (rule-passes _ (formed-out p, formed-in p));
+        apid = rw five (rule-passes _ (eqb-when _ _));
+        code = rw (six, unknown-code p) (rule-passes _ (λ h. h, λ h. h));
+        dump = λ e. let d = decode-dump p e in
+            rw (seven, nine, d) (rule-passes _ (eqb-when _ _), rule-passes _ (and-when _ _ (eqb-when _ _) (leb-when _ _)));
+        cancel = λ e. let d = decode-cancel p e in rw (seven, nine, d) (rule-passes _ (eqb-when _ _), refl);
+        load = λ e. let d = decode-load p e in
+            rw (seven, nine, d) (rule-passes _ (eqb-when _ _), rule-passes _ (all-when _ _ _ (eqb-when _ _) (leb-when _ _) (leb-when _ _)));
+        pool = λ e. let d = decode-pool p e in rw (seven, nine, d) (rule-passes _ (eqb-when _ _), rule-passes _ (leb-when _ _));
+      }
+
 -- THE COMMAND CALL
 
 module _ (s : State) (c : CommandArgs) where
-  any-cases : AnyCommand s c
+  dump-cases : functionCodeOf (c .packet) ≡ 0 → DumpCases (commandRows s c) s (c .packet)
   unfolding commandRows lentRows
-  any-cases =
-      record {
-        state = rule-passes _ (λ h. h, λ h. h);
-        image = rule-passes _ (eqb-when _ _);
-        reply = row-passes _ (ltb-when _ _);
-        formed = rule-passes _ (formed-out (c .packet), formed-in (c .packet));
-        apid = rule-passes _ (eqb-when _ _);
-        code = rw (unknown-code (c .packet)) (rule-passes _ (λ h. h, λ h. h));
-        unit = rule-passes _ (eqb-when _ _);
-      }
-
-  dump-cases : functionCodeOf (c .packet) ≡ 0 → DumpCases s c
-  unfolding commandRows lentRows fieldRules
   dump-cases e =
       let d = decode-dump (c .packet) e in
       record {
-        bytes = rw d (rule-passes _ (eqb-when _ _));
-        fields = rw d (rule-passes _ (and-when _ _ (eqb-when _ _) (leb-when _ _)));
         region = rw d (rule-passes _ (region-when anyRight _ _ _));
         right = rw d (rule-passes _ (region-when dumpRight _ _ _));
         transaction = rw d (row-passes _ (free-when s c));
@@ -115,51 +123,51 @@ module _ (s : State) (c : CommandArgs) where
         others = rw d (refl, refl);
       }
 
-  cancel-cases : functionCodeOf (c .packet) ≡ 1 → CancelCases s c
-  unfolding commandRows lentRows fieldRules
+  cancel-cases : functionCodeOf (c .packet) ≡ 1 → CancelCases (commandRows s c) s (c .packet)
+  unfolding commandRows lentRows
   cancel-cases e =
       let d = decode-cancel (c .packet) e in
-      record {
-        bytes = rw d (rule-passes _ (eqb-when _ _));
-        transaction = rw d (rule-passes _ (busy-when s c));
-        others = rw d (refl, refl, refl, refl, refl, refl);
-      }
+      record { transaction = rw d (rule-passes _ (busy-when s c)); others = rw d (refl, refl, refl, refl, refl) }
 
-  load-cases : functionCodeOf (c .packet) ≡ 4 → LoadCases s c
-  unfolding commandRows lentRows fieldRules
+  load-cases : functionCodeOf (c .packet) ≡ 4 → LoadCases (commandRows s c) s (c .packet)
+  unfolding commandRows lentRows
   load-cases e =
       let d = decode-load (c .packet) e in
       record {
-        bytes = rw d (rule-passes _ (eqb-when _ _));
-        fields = rw d (rule-passes _ (all-when _ _ _ (eqb-when _ _) (leb-when _ _) (leb-when _ _)));
         region = rw d (rule-passes _ (region-when anyRight _ _ _));
         right = rw d (rule-passes _ (region-when loadRight _ _ _));
         others = rw d (refl, refl, refl, refl);
       }
 
-  pool-cases : functionCodeOf (c .packet) ≡ 7 → PoolCases s c
-  unfolding commandRows lentRows fieldRules
+  pool-cases : functionCodeOf (c .packet) ≡ 7 → PoolCases (commandRows s c) s (c .packet) (c .image)
+  unfolding commandRows lentRows
   pool-cases e =
       let d = decode-pool (c .packet) e in
       record {
-        bytes = rw d (rule-passes _ (eqb-when _ _));
-        fields = rw d (rule-passes _ (leb-when _ _));
         there = rw d (row-passes _ (eqb-false _ _, ne-eqb _ _));
         blocks = rw d (row-passes _ (blocks-when _));
         others = rw d (refl, refl, refl, refl);
       }
 
-  pub command-cases : CommandCases s c
-  command-cases = record { any = any-cases; dump = dump-cases; cancel = cancel-cases; load = load-cases; pool = pool-cases }
+  pub command-cases : CommandCases (commandRows s c) s c
+  unfolding commandRows lentRows
+  command-cases =
+      record {
+        lent = record { state = rule-passes _ (λ h. h, λ h. h); as-long = rule-passes _ (eqb-when _ _); room = row-passes _ (ltb-when _ _) };
+        layout = layout-cases (commandRows s c) (c .packet) refl refl refl refl refl;
+        unit = rule-passes _ (eqb-when _ _);
+        dump = dump-cases;
+        cancel = cancel-cases;
+        load = load-cases;
+        pool = pool-cases;
+      }
 
 -- THE SLOT CALL
 
-pub slot-cases : (s : State) (c : SlotArgs) → SlotCases s c
+pub slot-cases : (s : State) (c : SlotArgs) → SlotCases (slotRows s c) s c
 unfolding slotRows lentRows
 slot-cases s c =
     record {
-      state = rule-passes _ (λ h. h, λ h. h);
-      image = rule-passes _ (eqb-when _ _);
-      buffer = row-passes _ (ltb-when _ _);
+      lent = record { state = rule-passes _ (λ h. h, λ h. h); as-long = rule-passes _ (eqb-when _ _); room = row-passes _ (ltb-when _ _) };
       busy = rule-passes _ (any-busy-out (s .places), λ h. any-busy-in (s .places) (h .0) (h .1) (h .2));
     }

@@ -10,7 +10,8 @@ use lib.Seq.{length-take-le, getD-take}
 use Rattle.lists.proofs.Tests.{contra}
 use Rattle.lists.proofs.Below.{any-of, first-found, first-before}
 use Rattle.lists.proofs.Splice.{splice-length, splice-in, splice-below, splice-above, splice-front, splice-rest}
-use Rattle.wire.specs.Bytes.{beAt}
+use Rattle.wire.specs.ByByte.{four}
+use Rattle.wire.proofs.ByByte.{at-four}
 use Rattle.wire.proofs.Words.{words-at-length, words-at-word}
 use Rattle.rules.specs.Regions.{anyRight, loadRight, dumpRight, inOneRegion, imageIndex}
 use Rattle.rules.specs.States.{poolAt}
@@ -25,10 +26,11 @@ use Rattle.rules.specs.declared.Decoded.{Decoded}
 use Rattle.rules.specs.declared.Decoded.the-variants.{Known}
 use Rattle.rules.specs.declared.Place.{Place}
 use Rattle.rules.specs.declared.State.{State}
-use Rattle.rules.proofs.Table.{holds-any, one-out, one-in, one-any, image-fits, image-index, range-low, words-length}
+use Rattle.rules.proofs.Table.{holds-any, one-out, one-in, one-any, image-fits, range-low, words-length}
+use Rattle.rules.proofs.Located.{lies-from, lies-index}
 use Rattle.rules.proofs.Good.{GoodIs, good-out, context-same, context-other}
 use Rattle.rules.proofs.Rules.{StartIs, start-out, pool-out as rules-pool}
-use Rattle.rules.proofs.Pools.{tiles-blocks, tiles-words, figures-fit, reply-figures, reply-head, reply-head}
+use Rattle.rules.proofs.Pools.{tiles-blocks, tiles-words, figures-fit, reply-figures, reply-head, reply-pool}
 use Rattle.rules.proofs.Passed.{Passed, passed-out, accepted-call, tests-of}
 use Rattle.rules.proofs.Allowed.{decode-dump, decode-cancel, decode-load, decode-pool, dump-out, cancel-out, load-out, pool-out, idle-out, idleAt, numberAt}
 
@@ -41,8 +43,8 @@ module _ (p : List ℕ) (n : ℕ) (most : n ≤ 11) where
   load-length : length (take n (dataWords p)) ≡ n
   load-length = let e = words-at-length 11 p 16 in length-take-le n (dataWords p) (omega arith)
 
-  load-word : (k : ℕ) → k < n → getD (take n (dataWords p)) k 0 ≡ beAt 4 p (16 + 4 * k)
-  load-word k l = getD-take n (dataWords p) k 0 l ∙ words-at-word 11 p 16 k (omega arith)
+  load-word : (k : ℕ) → k < n → getD (take n (dataWords p)) k 0 ≡ four p (16 + 4 * k)
+  load-word k l = getD-take n (dataWords p) k 0 l ∙ words-at-word 11 p 16 k (omega arith) ∙ at-four p (16 + 4 * k)
 
 -- a reply is 32 bytes long
 reply-length : (count unit transaction pool : ℕ) (bs : List Block) → length (replyBytes count unit transaction pool bs) ≡ 32
@@ -103,9 +105,13 @@ module _ (s : State) (c : CommandArgs) (h : IsAccepted s c) where
       let in-image = image-fits (s .regions) (s .count) r one in
       let first = imageIndex (s .regions) (s .count) r .0 in
       let fits : first + length v ≤ length (c .image) = omega (arith, passed .image) in
+      let lies = lies-from (s .regions) (s .count) r (start .table) (a .aligned) loadRight (a .region .0) (a .region .1) in
       record {
+        region = a .region .0;
+        offset = _;
+        lies = lies;
         first = first;
-        index = λ i l. image-index (s .regions) (s .count) (start .table) r i (a .some) l;
+        index = lies-index (s .regions) (s .count) r (start .table) (a .some) (a .region .0) _ lies;
         inside = omega (arith, passed .image);
         as-long = splice-length (c .image) first v fits;
         written = λ k l. splice-in (c .image) first v fits k (omega arith) ∙ load-word p (r .words) (a .most) k l;
@@ -136,19 +142,18 @@ module _ (s : State) (c : CommandArgs) (h : IsAccepted s c) where
   pool-replied a =
       let v = replyBytes (s .replies) (s .unit) (commandTransaction (c .packet)) (poolOf (c .packet)) (a .blocks .0) in
       let e : length v ≡ 32 = reply-length _ _ _ _ _ in
-      let head = reply-head (s .replies) (s .unit) (commandTransaction (c .packet)) (poolOf (c .packet)) (a .blocks .0) (c .reply) (good .replies) (start .low) (omega arith) (omega arith) in
       let fit = figures-fit (a .blocks .1) (rw (pool-length a) (pool-low a)) in
+      let figures = reply-figures (s .replies) (s .unit) (commandTransaction (c .packet)) (poolOf (c .packet)) (a .blocks .0) (c .reply) fit in
+      let head = reply-head (s .replies) (s .unit) (commandTransaction (c .packet)) (poolOf (c .packet)) (a .blocks .0) (good .replies) (start .low) (omega arith) in
       record {
         found = a .blocks .0;
         tiles = a .blocks .1;
-        figures = reply-figures _ _ _ _ (a .blocks .0) (c .reply) fit;
+        free = figures .0;
+        used = figures .1;
         size = tiles-words (a .blocks .1) ∙ pool-length a;
         reported = refl;
-        primary = head .0;
-        apid = head .1;
-        header = head .2;
-        pool = head .3;
-        reply = rw e at (splice-front (c .reply) v);
+        header = rw (← e, splice-front (c .reply) v) head;
+        pool = reply-pool (s .replies) (s .unit) (commandTransaction (c .packet)) (poolOf (c .packet)) (a .blocks .0) (c .reply) (a .pool);
         rest = rw e at (splice-rest (c .reply) v);
         state = refl;
         image = refl;

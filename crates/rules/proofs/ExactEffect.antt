@@ -5,7 +5,6 @@ use Rattle.rules.proofs.Pools.{figures-are, block-bits}
 use Rattle.rules.proofs.GoodWhen.{region-when, start-when, good-when}
 use Rattle.rules.proofs.AcceptedWhen.{accepted-when}
 use Rattle.rules.proofs.Effects.{effects}
-use Rattle.rules.proofs.Located.{image-first, image-next, image-word, bits, located}
 use Rattle.rules.proofs.Slot.{slot}
 use Rattle.rules.proofs.StaysGood.{command-good, slot-good, start-good}
 
@@ -20,11 +19,6 @@ demand-2 =
       region-when = region-when;
       start-when = start-when;
       good-when = good-when;
-      located = located;
-      image-first = image-first;
-      image-next = image-next;
-      image-word = image-word;
-      bits = bits;
       command-good = command-good;
       slot-good = slot-good;
       start-good = start-good;

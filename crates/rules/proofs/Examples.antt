@@ -30,6 +30,7 @@ examples =
       e7 = refl;
       e8-one = refl;
       e8-two = refl;
+      e8-bytes = refl;
       e8-pieces = refl;
       e8-slots = refl;
       e9 = refl;

@@ -13,6 +13,7 @@ use Rattle.rules.specs.Regions.{startOf, endOf, aligned}
 use Rattle.rules.specs.States.{pieceWords}
 use Rattle.rules.specs.Packets.{versionOf, typeOf, secondHeaderOf, sequenceFlagsOf, lengthFieldOf, apidOf, primaryRules}
 use Rattle.rules.specs.Results.{lowest}
+use Rattle.rules.specs.Cases.{TelemetryFormed}
 use Rattle.rules.specs.Slots.{dumpApid, packetHeader}
 use Rattle.rules.specs.Ground.{packetFields, couldBeDumped, isCut, cutRules, packetRows, packetNumber, concludePacket, readPacket}
 use Rattle.rules.specs.declared.DumpPacket.{DumpPacket}
@@ -39,7 +40,7 @@ pub record CutIs (f : DumpPacket) : Type 0 where
   pub piece : f .words ≡ min (pieceWords (f .range)) (f .range .words - sentBefore f)
 
 module _ (f : DumpPacket) where
-  cut-out : cutRules f ≡ true → CutIs f
+  pub cut-out : cutRules f ≡ true → CutIs f
   unfolding cutRules
   cut-out h =
       let r = f .range in
@@ -72,7 +73,7 @@ module _ (f : DumpPacket) where
         piece = eqb-true _ _ (and-right (x && y) z k2);
       }
 
-  cut-in : CutIs f → cutRules f ≡ true
+  pub cut-in : CutIs f → cutRules f ≡ true
   unfolding cutRules
   cut-in k =
       let r = f .range in
@@ -91,12 +92,7 @@ module _ (f : DumpPacket) where
 -- THE PACKET
 
 pub record PacketIs (p : List ℕ) : Type 0 where
-  pub header : packetHeader ≤ length p
-  pub version : versionOf p ≡ 0
-  pub type : typeOf p ≡ 0
-  pub second-header : secondHeaderOf p ≡ 0
-  pub sequence-flags : sequenceFlagsOf p ≡ 3
-  pub length-field : lengthFieldOf p + 7 ≡ length p
+  pub formed : TelemetryFormed p
   pub apid : apidOf p ≡ dumpApid
   pub some : 1 ≤ packetFields p .words
   pub most : packetFields p .words ≤ pieceWords (packetFields p .range)
@@ -104,33 +100,49 @@ pub record PacketIs (p : List ℕ) : Type 0 where
   pub cut : CutIs (packetFields p)
 
 module _ (p : List ℕ) where
-  rows-out : NoneApplies (packetRows p) → PacketIs p
-  unfolding packetRows
-  rows-out (shape, (apid, (bytes, (cut, end)))) =
-      let f = packetFields p in
+  pub telemetry-out : (leb packetHeader (length p) && primaryRules 0 0 p) ≡ true → TelemetryFormed p
+  telemetry-out k =
       let a = leb packetHeader (length p) in
       let v = eqb (versionOf p) 0 in
       let t = eqb (typeOf p) 0 in
       let s = eqb (secondHeaderOf p) 0 in
       let q = eqb (sequenceFlagsOf p) 3 in
       let l = eqb (lengthFieldOf p + 7) (length p) in
-      let x = leb 1 (f .words) in
-      let y = leb (f .words) (pieceWords (f .range)) in
-      let z = eqb (length p) (packetHeader + 4 * f .words) in
-      let k = not-false (a && primaryRules 0 0 p) shape in
       let h4 = and-right a (primaryRules 0 0 p) k in
       let h3 = and-left (v && t && s && q) l h4 in
       let h2 = and-left (v && t && s) q h3 in
       let h1 = and-left (v && t) s h2 in
-      let b2 = not-false (x && y && z) bytes in
-      let b1 = and-left (x && y) z b2 in
       record {
-        header = leb-true _ _ (and-left a (primaryRules 0 0 p) k);
+        bytes = leb-true _ _ (and-left a (primaryRules 0 0 p) k);
         version = eqb-true _ _ (and-left v t h1);
         type = eqb-true _ _ (and-right v t h1);
         second-header = eqb-true _ _ (and-right (v && t) s h2);
         sequence-flags = eqb-true _ _ (and-right (v && t && s) q h3);
         length-field = eqb-true _ _ (and-right (v && t && s && q) l h4);
+      }
+
+  pub telemetry-in : TelemetryFormed p → (leb packetHeader (length p) && primaryRules 0 0 p) ≡ true
+  telemetry-in k =
+      rw (
+        le-leb packetHeader (length p) (k .bytes),
+        eq-eqb (versionOf p) 0 (k .version),
+        eq-eqb (typeOf p) 0 (k .type),
+        eq-eqb (secondHeaderOf p) 0 (k .second-header),
+        eq-eqb (sequenceFlagsOf p) 3 (k .sequence-flags),
+        eq-eqb (lengthFieldOf p + 7) (length p) (k .length-field),
+      )
+
+  rows-out : NoneApplies (packetRows p) → PacketIs p
+  unfolding packetRows
+  rows-out (shape, (apid, (bytes, (cut, end)))) =
+      let f = packetFields p in
+      let x = leb 1 (f .words) in
+      let y = leb (f .words) (pieceWords (f .range)) in
+      let z = eqb (length p) (packetHeader + 4 * f .words) in
+      let b2 = not-false (x && y && z) bytes in
+      let b1 = and-left (x && y) z b2 in
+      record {
+        formed = telemetry-out (not-false _ shape);
         apid = eqb-true _ _ (not-false _ apid);
         some = leb-true _ _ (and-left x y b1);
         most = leb-true _ _ (and-right x y b1);
@@ -142,24 +154,16 @@ module _ (p : List ℕ) where
   unfolding packetRows
   rows-in k =
       let f = packetFields p in
-      let shape : (leb packetHeader (length p) && primaryRules 0 0 p) ≡ true =
-      rw (
-        le-leb packetHeader (length p) (k .header),
-        eq-eqb (versionOf p) 0 (k .version),
-        eq-eqb (typeOf p) 0 (k .type),
-        eq-eqb (secondHeaderOf p) 0 (k .second-header),
-        eq-eqb (sequenceFlagsOf p) 3 (k .sequence-flags),
-        eq-eqb (lengthFieldOf p + 7) (length p) (k .length-field),
-      )
-      in
       let bytes : (leb 1 (f .words) && leb (f .words) (pieceWords (f .range)) && eqb (length p) (packetHeader + 4 * f .words)) ≡ true =
       rw (
         le-leb 1 (f .words) (k .some),
         le-leb (f .words) (pieceWords (f .range)) (k .most),
         eq-eqb (length p) (packetHeader + 4 * f .words) (k .bytes),
       )
-      in
-      (ap not shape, (ap not (eq-eqb (apidOf p) dumpApid (k .apid)), (ap not bytes, (ap not (cut-in f (k .cut)), tt))))
+      in (
+        ap not (telemetry-in (k .formed)),
+        (ap not (eq-eqb (apidOf p) dumpApid (k .apid)), (ap not bytes, (ap not (cut-in f (k .cut)), tt))),
+      )
 
   -- an answer of 0 is no refusal
   concluded : (v : Verdict) → packetNumber (concludePacket p v .reading) ≡ 0 → v ≡ Accepted

@@ -186,7 +186,7 @@ module _ (p : List ℕ) (b : AreBytes p) where
       → packetBytes (boxOf (packetFields p)) (packetFields p .tick) (dumpOf (packetFields p)) ws ≡ cells packetHeader p 0 ++ wordBytes ws
   unfolding packetBytes
   header-bytes ws is e =
-      let kind = number-bytes 2 0 dumpApid (omega (arith, apid-alone (beAt 2 p 0) (is .version) (is .type) (is .second-header))) in
+      let kind = number-bytes 2 0 dumpApid (omega (arith, apid-alone (beAt 2 p 0) (is .formed .version) (is .formed .type) (is .formed .second-header))) in
       let sequence = number-bytes 2 2 (16384 * 3 + sequenceCountOf p) (omega arith) in
       let bytes = number-bytes 2 4 (packetHeader + 4 * length ws - 7) (omega arith) in
       let identity = number-bytes 2 6 (4096 * unitAt p 6 + transactionAt p 6) (omega arith) in

@@ -1,17 +1,19 @@
 -- Demand 1: each call gives each number exactly in its case, and a refusal leaves all as it was, save the refused count where it counts.
 -- Assumes nothing.
-use mathlib.Core.Path.{_≡_, refl}
+use mathlib.Core.Path.{_≡_, refl, _∙_}
 use mathlib.Core.Logic.{_≢_}
 use mathlib.Core.Bool.{true, false}
 use mathlib.Core.List.{List, []}
 use Prim.Native.Nat.{ℕ, _≤_}
 use native.Mathlib.Omega.{arith}
-use lib.ListN.{length}
+use lib.ListN.{length, drop}
 use borrow.Author.Tests.{eqb-true, ltb-false, not-false}
 use Rattle.lists.proofs.Tests.{either, contra}
+use Rattle.lists.proofs.Splice.{splice-rest}
 use Rattle.rules.specs.Regions.{imageLength, tableRules}
 use Rattle.rules.specs.States.{entriesUsed, startRules, startUp, noState, goodState, contextAt}
-use Rattle.rules.specs.Packets.{decode}
+use Rattle.rules.specs.Packets.{decode, commandBytes}
+use Rattle.rules.specs.Cases.{bytesOf}
 use Rattle.rules.specs.Pools.{Walk, damaged, whole, blocksOf, isDamaged, replyLength}
 use Rattle.rules.specs.Results.{answerLength, verdictNumber, answerNumber, lowest, lentRows}
 use Rattle.rules.specs.Commands.{CommandArgs, Outcome, isUnknown, outside, poolWords, poolDamaged, commandRows, acceptedMore, refusedCommand, replied, carryOut, conclude, commandCall}
@@ -33,9 +35,11 @@ use Rattle.rules.specs.declared.Verdict.{Verdict}
 use Rattle.rules.specs.declared.Verdict.the-variants.{Accepted, Rejected}
 use Rattle.rules.proofs.Good.{good-out}
 use Rattle.rules.proofs.LowestNumber.{number-some, number-counts, number-keeps, lowest-number, test-passed}
-use Rattle.rules.proofs.Fits.{load-keeps-length, reply-keeps-length, packet-keeps-length, command-keeps-length}
+use Rattle.rules.proofs.Fits.{load-keeps-length, reply-keeps-length, packet-keeps-length, command-keeps-length, command-length}
 use Rattle.rules.proofs.Round.{next-busy}
 use Rattle.rules.proofs.Cases.{command-cases, slot-cases}
+use Rattle.rules.proofs.AnswerNumbers.{answer-numbers}
+use Rattle.rules.proofs.GroundCases.{length-of, writer-cases, reader-cases, packet-cases}
 
 -- THE COMMAND CALL
 
@@ -185,6 +189,15 @@ module _ (s : State) (c : SlotArgs) where
 
 -- START-UP
 
+-- the state that start-up gives with 17 is not good
+no-command-accepted : (c : CommandArgs) → answerNumber (commandCall noState c .answer) ≡ 1
+unfolding commandCall commandRows lentRows lowest goodState startRules tableRules
+no-command-accepted c = refl
+
+no-slot-served : (c : SlotArgs) → answerNumber (slotCall noState c .answer) ≡ 1
+unfolding slotCall slotRows lentRows lowest goodState startRules tableRules
+no-slot-served c = refl
+
 start-refusals : (rs : List Region) (n : ℕ) (pools : List Range) (unit : ℕ) → StartRefusals rs n pools unit
 unfolding startUp entriesUsed
 start-refusals rs n pools unit =
@@ -194,6 +207,8 @@ start-refusals rs n pools unit =
       ready = rw e (λ z. refl, λ z. refl);
       refused = rw e (λ z. absurd (omega arith), λ z. absurd (contra refl z));
       nothing = rw e (λ z. absurd (omega arith));
+      no-command = λ c. rw e (λ z. absurd (omega arith));
+      no-slot = λ c. rw e (λ z. absurd (omega arith));
       fresh = rw e (λ z. refl);
     })
     (λ e.
@@ -201,6 +216,8 @@ start-refusals rs n pools unit =
       ready = rw e (λ z. absurd (omega arith), λ z. absurd (contra z refl));
       refused = rw e (λ z. refl, λ z. refl);
       nothing = rw e (λ z. refl);
+      no-command = λ c. rw e (λ z. no-command-accepted c);
+      no-slot = λ c. rw e (λ z. no-slot-served c);
       fresh = rw e (λ z. absurd (omega arith));
     })
 
@@ -219,6 +236,12 @@ module _ (h : Header) (k : Command) (ws buffer : List ℕ) where
       → (concludeWrite h k ws buffer v .buffer ≡ buffer) × (answerLength (concludeWrite h k ws buffer v .answer) ≡ 0)
   writer-keeps Accepted n = absurd (n refl)
   writer-keeps (Rejected r) n = (refl, refl)
+
+  writer-stays : (v : Verdict) → drop (bytesOf k) (concludeWrite h k ws buffer v .buffer) ≡ drop (bytesOf k) buffer
+  writer-stays Accepted =
+      let e : length (commandBytes h k ws) ≡ bytesOf k = command-length h k ws ∙ length-of k in
+      rw e at (splice-rest buffer (commandBytes h k ws))
+  writer-stays (Rejected r) = refl
 
   writer-length : (v : Verdict) → lowest (writerRows h k buffer) ≡ v → length (concludeWrite h k ws buffer v .buffer) ≡ length buffer
   unfolding writerRows
@@ -260,26 +283,20 @@ unfolding writerRows writeCommand readerRows readCommand packetRows readPacket
 ground-refusals h k ws buffer p =
     record {
       writer-numbers = refl;
+      writer-cases = writer-cases h k buffer;
       writer = writer-lowest h k ws buffer;
       writer-kept = writer-keeps h k ws buffer (lowest (writerRows h k buffer));
       writer-lent = writer-length h k ws buffer (lowest (writerRows h k buffer)) refl;
+      writer-rest = writer-stays h k ws buffer (lowest (writerRows h k buffer));
       reader-numbers = refl;
+      reader-cases = reader-cases p;
       reader = reader-lowest p;
       reader-empty = reader-keeps p (lowest (readerRows p)) refl;
       packet-numbers = refl;
+      packet-cases = packet-cases p;
       packet = packet-lowest p;
       packet-empty = packet-keeps p (lowest (packetRows p));
     }
-
--- THE STATE THAT START-UP GIVES WITH 17: it is not good
-
-no-command-accepted : (c : CommandArgs) → answerNumber (commandCall noState c .answer) ≡ 1
-unfolding commandCall commandRows lentRows lowest goodState startRules tableRules
-no-command-accepted c = refl
-
-no-slot-served : (c : SlotArgs) → answerNumber (slotCall noState c .answer) ≡ 1
-unfolding slotCall slotRows lentRows lowest goodState startRules tableRules
-no-slot-served c = refl
 
 pub demand-1 : Demand1
 demand-1 =
@@ -287,7 +304,6 @@ demand-1 =
       command = command-refusals;
       slot = slot-refusals;
       start = start-refusals;
-      no-command = no-command-accepted;
-      no-slot = no-slot-served;
+      answers = answer-numbers;
       ground = ground-refusals;
     }

@@ -40,25 +40,25 @@ module _ (s : State) (tick : ℕ) (d : ActiveDump) (ws : List ℕ) where
   unfolding packetBytes
   packet-unit h k = omega arith
 
-  packet-tick : tick < 4294967296 → packetFields (packetBytes s tick d ws) .tick ≡ tick
+  pub packet-tick : tick < 4294967296 → packetFields (packetBytes s tick d ws) .tick ≡ tick
   unfolding packetBytes
   packet-tick h = be-back 4 tick h
 
-  packet-length-field : packetHeader + 4 * length ws ≤ longestPacket → lengthFieldOf (packetBytes s tick d ws) + 7 ≡ packetHeader + 4 * length ws
+  pub packet-length-field : packetHeader + 4 * length ws ≤ longestPacket → lengthFieldOf (packetBytes s tick d ws) + 7 ≡ packetHeader + 4 * length ws
   unfolding packetBytes
   packet-length-field h = omega arith
 
 -- THE PACKET
 
 -- what a slot puts into the packet of a dump fits in its fields, and the data are the dump's next cut
-record Bounds (s : State) (c : SlotArgs) (d : ActiveDump) : Type 0 where
-  dump : DumpIs (s .regions) (s .count) d
-  packets : s .packets ≤ 16383
-  unit : s .unit ≤ 15
-  tick : c .tick < 4294967296
-  low : endOf (d .range) ≤ 4294967296
-  cut : length (nextWords s (c .image) d) ≡ min (pieceWords (d .range)) (d .range .words - d .sent)
-  longest : packetHeader + 4 * length (nextWords s (c .image) d) ≤ longestPacket
+pub record Bounds (s : State) (c : SlotArgs) (d : ActiveDump) : Type 0 where
+  pub dump : DumpIs (s .regions) (s .count) d
+  pub packets : s .packets ≤ 16383
+  pub unit : s .unit ≤ 15
+  pub tick : c .tick < 4294967296
+  pub low : endOf (d .range) ≤ 4294967296
+  pub cut : length (nextWords s (c .image) d) ≡ min (pieceWords (d .range)) (d .range .words - d .sent)
+  pub longest : packetHeader + 4 * length (nextWords s (c .image) d) ≤ longestPacket
 
 module _ (s : State) (c : SlotArgs) (x : SlotDone s c (slotCall s c)) where
   abbrev words : List ℕ
@@ -110,12 +110,15 @@ module _ (s : State) (c : SlotArgs) (x : SlotDone s c (slotCall s c)) where
       let l = packet-length s (c .tick) (x .dump) words in
       let z = piece-some (x .dump .range) in
       record {
-        header = omega arith;
-        version = refl;
-        type = refl;
-        second-header = refl;
-        sequence-flags = omega arith;
-        length-field = packet-length-field s (c .tick) (x .dump) words (b .longest) ∙ sym l;
+        formed =
+            record {
+              bytes = omega arith;
+              version = refl;
+              type = refl;
+              second-header = refl;
+              sequence-flags = omega arith;
+              length-field = packet-length-field s (c .tick) (x .dump) words (b .longest) ∙ sym l;
+            };
         apid = refl;
         some = subst⁻¹ (λ (f : DumpPacket). 1 ≤ f .words) e (omega arith);
         most = subst⁻¹ (λ (f : DumpPacket). f .words ≤ pieceWords (f .range)) e (omega arith);
@@ -125,7 +128,7 @@ module _ (s : State) (c : SlotArgs) (x : SlotDone s c (slotCall s c)) where
 
   -- a slot of a good state keeps to the bounds
 
-  bounds : SlotFits s c → Bounds s c (x .dump)
+  pub bounds : SlotFits s c → Bounds s c (x .dump)
   unfolding nextWords
   bounds fits =
       let r = x .dump .range in

@@ -42,7 +42,7 @@ code-most Cancel = omega arith
 code-most (Load q) = omega arith
 code-most (PoolStatistics i) = omega arith
 
-length-most : (k : Command) → packetLength k ≤ 60
+pub length-most : (k : Command) → packetLength k ≤ 60
 length-most (Dump q) = omega arith
 length-most Cancel = omega arith
 length-most (Load q) = omega arith
@@ -51,11 +51,11 @@ length-most (PoolStatistics i) = omega arith
 -- A PACKET THAT WAS WRITTEN
 
 module _ (h : Header) (ws : List ℕ) where
-  command-check : (k : Command) → xorAll (commandBytes h k ws) ≡ 255
+  pub command-check : (k : Command) → xorAll (commandBytes h k ws) ≡ 255
   unfolding commandBytes
   command-check k = sealed-check _ (omega arith) refl
 
-  command-known : (k : Command) → CommandFits k → decode (commandBytes h k ws) ≡ Known k
+  pub command-known : (k : Command) → CommandFits k → decode (commandBytes h k ws) ≡ Known k
   unfolding commandBytes sealed
   command-known (Dump q) fit =
       let p = commandBytes h (Dump q) ws in decode-dump p refl ∙ ap (λ (r : Request). Known (Dump r)) (request-is p q (omega arith) (omega arith))
@@ -112,7 +112,7 @@ command-words h (Load q) ws f fit i l =
 command-words h (PoolStatistics n) ws f fit i l = absurd (omega arith)
 
 -- the packet in the buffer that the writer leaves
-packet-written : (h : Header) (k : Command) (ws buffer : List ℕ) → Writable h k buffer
+pub packet-written : (h : Header) (k : Command) (ws buffer : List ℕ) → Writable h k buffer
     → take (packetLength k) (writeCommand h k ws buffer .buffer) ≡ commandBytes h k ws
 packet-written h k ws buffer w =
     rw (writable-in h k ws buffer w, ← command-length h k ws) (splice-front buffer (commandBytes h k ws))

@@ -13,13 +13,14 @@ use Rattle.rules.specs.Regions.{aligned}
 use Rattle.rules.specs.Packets.{packetLength, requested, fieldRules, commandBytes}
 use Rattle.rules.specs.Results.{answerNumber, answerLength}
 use Rattle.rules.specs.Ground.{writeCommand}
-use Rattle.rules.specs.ReadBack.{FieldsAllowed, Writes}
+use Rattle.rules.specs.Cases.{FieldsAllowed}
+use Rattle.rules.specs.ReadBack.{Writes}
 use Rattle.rules.specs.declared.Command.{Command}
 use Rattle.rules.specs.declared.Command.the-variants.{Dump, Cancel, Load, PoolStatistics}
 use Rattle.rules.specs.declared.Header.{Header}
 use Rattle.rules.proofs.GroundTests.{Writable, writable-out, writable-in}
 
-fields-out : (k : Command) → fieldRules k ≡ true → FieldsAllowed k
+pub fields-out : (k : Command) → fieldRules k ≡ true → FieldsAllowed k
 unfolding fieldRules
 fields-out (Dump q) h = (eqb-true _ _ (and-left (aligned (requested q)) (leb 1 (q .size)) h), leb-true _ _ (and-right (aligned (requested q)) (leb 1 (q .size)) h))
 fields-out Cancel h = tt
@@ -31,7 +32,7 @@ fields-out (Load q) h =
     (eqb-true _ _ (and-left a b g), leb-true _ _ (and-right a b g), leb-true _ _ (and-right (a && b) c h))
 fields-out (PoolStatistics i) h = leb-true _ _ h
 
-fields-in : (k : Command) → FieldsAllowed k → fieldRules k ≡ true
+pub fields-in : (k : Command) → FieldsAllowed k → fieldRules k ≡ true
 unfolding fieldRules
 fields-in (Dump q) f = and-both (eq-eqb _ _ (f .0)) (le-leb _ _ (f .1))
 fields-in Cancel f = refl

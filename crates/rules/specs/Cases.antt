@@ -1,23 +1,27 @@
--- The cases of the table of result numbers in logic (paper 01, "Result numbers"): for each number that a command can get, when its row does not
--- apply. Demand 1 says that the rows of Commands.antt are these.
+-- The cases of the table of result numbers in logic (paper 01, "Result numbers" and "Ground reader and writer"): for each number that a call
+-- can give, when its row does not apply. Demand 1 says that the rows of Commands.antt, Slots.antt and Ground.antt are these.
 use mathlib.Core.Path.{_≡_}
 use mathlib.Core.Logic.{_≢_, _↔_}
 use mathlib.Core.Bool.{Bool, true, false, _&&_, _||_}
 use mathlib.Core.List.{List, [], _∷_}
-use Prim.Native.Nat.{ℕ, _+_, _%_, _≤_, _<_}
+use Prim.Native.Nat.{ℕ, _+_, _*_, _-_, _%_, _≤_, _<_, min}
 use lib.Dec.{eqb}
 use lib.ListN.{length}
 use Rattle.wire.specs.Bytes.{beAt}
+use Rattle.wire.specs.ByByte.{four}
 use Rattle.wire.specs.Xor.{xorAll}
-use Rattle.rules.specs.Regions.{startOf, anyRight, imageLength}
+use Rattle.rules.specs.Regions.{startOf, imageLength}
 use Rattle.rules.specs.States.{poolAt, contextAt, busyWith, goodState}
 use Rattle.rules.specs.GoodWhen.{LiesIn, DumpableIn}
 use Rattle.rules.specs.Packets.{versionOf, typeOf, secondHeaderOf, sequenceFlagsOf, lengthFieldOf, zeroBitOf, functionCodeOf, apidOf, commandUnit, commandTransaction, requestOf, requested}
 use Rattle.rules.specs.Pools.{Block, Tiles}
 use Rattle.rules.specs.Results.{number, Row}
-use Rattle.rules.specs.Commands.{CommandArgs, commandRows, poolWords}
-use Rattle.rules.specs.Slots.{SlotArgs, slotRows}
+use Rattle.rules.specs.Commands.{CommandArgs, poolWords}
+use Rattle.rules.specs.Slots.{SlotArgs}
+use Rattle.rules.specs.declared.Command.{Command}
+use Rattle.rules.specs.declared.Command.the-variants.{Dump, Cancel, Load, PoolStatistics}
 use Rattle.rules.specs.declared.Context.the-variants.{Idle}
+use Rattle.rules.specs.declared.Header.{Header}
 use Rattle.rules.specs.declared.Range.{Range}
 use Rattle.rules.specs.declared.Region.{Region}
 use Rattle.rules.specs.declared.State.{State}
@@ -49,23 +53,35 @@ rangeOf p = requested (requestOf p)
 abbrev pub poolOf : List ℕ → ℕ
 poolOf p = beAt 2 p 10
 
-module _ (s : State) (c : CommandArgs) where
+module _ (rows : List Row) where
   -- number k passes exactly if P; it never applies
   abbrev pub Passes : ℕ → Type 0 → Type 0
-  Passes k P = (applies k (commandRows s c) ≡ false) ↔ P
+  Passes k P = (applies k rows ≡ false) ↔ P
 
   abbrev pub Never : ℕ → Type 0
-  Never k = applies k (commandRows s c) ≡ false
+  Never k = applies k rows ≡ false
 
--- what every command must pass: numbers 1 to 6 and 8
-pub record AnyCommand (s : State) (c : CommandArgs) : Type 0 where
-  pub state : Passes s c 1 (goodState s ≡ true)
-  pub image : Passes s c 2 (length (c .image) ≡ imageLength (s .regions) (s .count))
-  pub reply : Passes s c 3 (32 ≤ length (c .reply))
-  pub formed : Passes s c 4 (Formed (c .packet))
-  pub apid : Passes s c 5 (apidOf (c .packet) ≡ 1604)
-  pub code : Passes s c 6 (oneOf (functionCodeOf (c .packet)) (0 ∷ 1 ∷ 4 ∷ 7 ∷ []) ≡ true)
-  pub unit : Passes s c 8 (commandUnit (c .packet) ≡ s .unit)
+-- WHAT IS LENT: numbers 1, 2 and 3 of a call whose buffer must have `size` bytes
+
+pub record LentCases (rows : List Row) (s : State) (image : List ℕ) (size : ℕ) (buffer : List ℕ) : Type 0 where
+  pub state : Passes rows 1 (goodState s ≡ true)
+  pub as-long : Passes rows 2 (length image ≡ imageLength (s .regions) (s .count))
+  pub room : Passes rows 3 (size ≤ length buffer)
+
+-- A COMMAND PACKET: numbers 4 to 7 and 9, which the command call and the command reader give in the same cases
+
+pub record LayoutCases (rows : List Row) (p : List ℕ) : Type 0 where
+  pub formed : Passes rows 4 (Formed p)
+  pub apid : Passes rows 5 (apidOf p ≡ 1604)
+  pub code : Passes rows 6 (oneOf (functionCodeOf p) (0 ∷ 1 ∷ 4 ∷ 7 ∷ []) ≡ true)
+  pub dump : functionCodeOf p ≡ 0
+      → Passes rows 7 (length p ≡ 16) × Passes rows 9 ((startOf (rangeOf p) % 4 ≡ 0) × (1 ≤ rangeOf p .words))
+  pub cancel : functionCodeOf p ≡ 1 → Passes rows 7 (length p ≡ 10) × Never rows 9
+  pub load : functionCodeOf p ≡ 4
+      → Passes rows 7 (length p ≡ 60) × Passes rows 9 ((startOf (rangeOf p) % 4 ≡ 0) × (1 ≤ rangeOf p .words) × (rangeOf p .words ≤ 11))
+  pub pool : functionCodeOf p ≡ 7 → Passes rows 7 (length p ≡ 12) × Passes rows 9 (poolOf p ≤ 1)
+
+-- THE COMMAND CALL: beside those, number 8, and 10 to 15 by function code
 
 -- a transaction number that no place is busy with, and one that some place is
 abbrev pub NumberFree : State → List ℕ → Type 0
@@ -77,44 +93,86 @@ NumberBusy s p = (i : ℕ) × (i < 4) × (busyWith (commandTransaction p) (conte
 abbrev pub PlaceFree : State → Type 0
 PlaceFree s = (i : ℕ) × (i < 4) × (contextAt (s .places) i ≡ Idle)
 
-pub record DumpCases (s : State) (c : CommandArgs) : Type 0 where
-  pub bytes : Passes s c 7 (length (c .packet) ≡ 16)
-  pub fields : Passes s c 9 ((startOf (rangeOf (c .packet)) % 4 ≡ 0) × (1 ≤ rangeOf (c .packet) .words))
-  pub region : Passes s c 10 ((i : ℕ) × LiesIn anyRight (s .regions) (s .count) (rangeOf (c .packet)) i)
-  pub right : Passes s c 11 (DumpableIn (s .regions) (s .count) (rangeOf (c .packet)))
-  pub transaction : Passes s c 12 (NumberFree s (c .packet))
-  pub place : Passes s c 13 (PlaceFree s)
-  pub others : Never s c 14 × Never s c 15
+pub record DumpCases (rows : List Row) (s : State) (p : List ℕ) : Type 0 where
+  pub region : Passes rows 10 ((i : ℕ) × LiesIn (λ (g : Region). true) (s .regions) (s .count) (rangeOf p) i)
+  pub right : Passes rows 11 (DumpableIn (s .regions) (s .count) (rangeOf p))
+  pub transaction : Passes rows 12 (NumberFree s p)
+  pub place : Passes rows 13 (PlaceFree s)
+  pub others : Never rows 14 × Never rows 15
 
-pub record CancelCases (s : State) (c : CommandArgs) : Type 0 where
-  pub bytes : Passes s c 7 (length (c .packet) ≡ 10)
-  pub transaction : Passes s c 14 (NumberBusy s (c .packet))
-  pub others : Never s c 9 × Never s c 10 × Never s c 11 × Never s c 12 × Never s c 13 × Never s c 15
+pub record CancelCases (rows : List Row) (s : State) (p : List ℕ) : Type 0 where
+  pub transaction : Passes rows 14 (NumberBusy s p)
+  pub others : Never rows 10 × Never rows 11 × Never rows 12 × Never rows 13 × Never rows 15
 
-pub record LoadCases (s : State) (c : CommandArgs) : Type 0 where
-  pub bytes : Passes s c 7 (length (c .packet) ≡ 60)
-  pub fields : Passes s c 9 ((startOf (rangeOf (c .packet)) % 4 ≡ 0) × (1 ≤ rangeOf (c .packet) .words) × (rangeOf (c .packet) .words ≤ 11))
-  pub region : Passes s c 10 ((i : ℕ) × LiesIn anyRight (s .regions) (s .count) (rangeOf (c .packet)) i)
-  pub right : Passes s c 11 ((i : ℕ) × LiesIn (λ (g : Region). g .load) (s .regions) (s .count) (rangeOf (c .packet)) i)
-  pub others : Never s c 12 × Never s c 13 × Never s c 14 × Never s c 15
+pub record LoadCases (rows : List Row) (s : State) (p : List ℕ) : Type 0 where
+  pub region : Passes rows 10 ((i : ℕ) × LiesIn (λ (g : Region). true) (s .regions) (s .count) (rangeOf p) i)
+  pub right : Passes rows 11 ((i : ℕ) × LiesIn (λ (g : Region). g .load) (s .regions) (s .count) (rangeOf p) i)
+  pub others : Never rows 12 × Never rows 13 × Never rows 14 × Never rows 15
 
-pub record PoolCases (s : State) (c : CommandArgs) : Type 0 where
-  pub bytes : Passes s c 7 (length (c .packet) ≡ 12)
-  pub fields : Passes s c 9 (poolOf (c .packet) ≤ 1)
-  pub there : Passes s c 10 (poolAt (s .pools) (poolOf (c .packet)) .words ≢ 0)
-  pub blocks : Passes s c 15 ((bs : List Block) × Tiles (poolWords s (poolOf (c .packet)) (c .image)) bs)
-  pub others : Never s c 11 × Never s c 12 × Never s c 13 × Never s c 14
+pub record PoolCases (rows : List Row) (s : State) (p image : List ℕ) : Type 0 where
+  pub there : Passes rows 10 (poolAt (s .pools) (poolOf p) .words ≢ 0)
+  pub blocks : Passes rows 15 ((bs : List Block) × Tiles (poolWords s (poolOf p) image) bs)
+  pub others : Never rows 11 × Never rows 12 × Never rows 13 × Never rows 14
 
-pub record CommandCases (s : State) (c : CommandArgs) : Type 0 where
-  pub any : AnyCommand s c
-  pub dump : functionCodeOf (c .packet) ≡ 0 → DumpCases s c
-  pub cancel : functionCodeOf (c .packet) ≡ 1 → CancelCases s c
-  pub load : functionCodeOf (c .packet) ≡ 4 → LoadCases s c
-  pub pool : functionCodeOf (c .packet) ≡ 7 → PoolCases s c
+pub record CommandCases (rows : List Row) (s : State) (c : CommandArgs) : Type 0 where
+  pub lent : LentCases rows s (c .image) 32 (c .reply)
+  pub layout : LayoutCases rows (c .packet)
+  pub unit : Passes rows 8 (commandUnit (c .packet) ≡ s .unit)
+  pub dump : functionCodeOf (c .packet) ≡ 0 → DumpCases rows s (c .packet)
+  pub cancel : functionCodeOf (c .packet) ≡ 1 → CancelCases rows s (c .packet)
+  pub load : functionCodeOf (c .packet) ≡ 4 → LoadCases rows s (c .packet)
+  pub pool : functionCodeOf (c .packet) ≡ 7 → PoolCases rows s (c .packet) (c .image)
 
--- the rows of a slot call
-pub record SlotCases (s : State) (c : SlotArgs) : Type 0 where
-  pub state : (applies 1 (slotRows s c) ≡ false) ↔ (goodState s ≡ true)
-  pub image : (applies 2 (slotRows s c) ≡ false) ↔ (length (c .image) ≡ imageLength (s .regions) (s .count))
-  pub buffer : (applies 3 (slotRows s c) ≡ false) ↔ (4092 ≤ length (c .buffer))
-  pub busy : (applies 16 (slotRows s c) ≡ false) ↔ ((i : ℕ) × (i < 4) × (contextAt (s .places) i ≢ Idle))
+-- THE SLOT CALL
+
+pub record SlotCases (rows : List Row) (s : State) (c : SlotArgs) : Type 0 where
+  pub lent : LentCases rows s (c .image) 4092 (c .buffer)
+  pub busy : Passes rows 16 ((i : ℕ) × (i < 4) × (contextAt (s .places) i ≢ Idle))
+
+-- THE COMMAND WRITER: numbers 3 and 9
+
+-- packet bytes of a command
+abbrev pub bytesOf : Command → ℕ
+bytesOf (Dump q) = 16
+bytesOf Cancel = 10
+bytesOf (Load q) = 60
+bytesOf (PoolStatistics i) = 12
+
+-- what number 9 asks of a command's fields
+abbrev pub FieldsAllowed : Command → Type 0
+FieldsAllowed (Dump q) = (q .address .0 % 4 ≡ 0) × (1 ≤ q .size)
+FieldsAllowed Cancel = Unit {0}
+FieldsAllowed (Load q) = (q .address .0 % 4 ≡ 0) × (1 ≤ q .size) × (q .size ≤ 11)
+FieldsAllowed (PoolStatistics i) = i ≤ 1
+
+pub record WriterCases (rows : List Row) (h : Header) (k : Command) (buffer : List ℕ) : Type 0 where
+  pub room : Passes rows 3 (bytesOf k ≤ length buffer)
+  pub fields : Passes rows 9 ((h .unit ≤ 15) × (h .transaction ≤ 4095) × (h .count ≤ 16383) × FieldsAllowed k)
+
+-- THE DUMP PACKET READER: numbers 4, 5, 7 and 9
+
+-- the primary header of telemetry: what number 4 asks
+pub record TelemetryFormed (p : List ℕ) : Type 0 where
+  pub bytes : 28 ≤ length p
+  pub version : versionOf p ≡ 0
+  pub type : typeOf p ≡ 0
+  pub second-header : secondHeaderOf p ≡ 0
+  pub sequence-flags : sequenceFlagsOf p ≡ 3
+  pub length-field : lengthFieldOf p + 7 ≡ length p
+
+-- `words` words from address `here` on are one of the cuts of 1,016 of a range that could be a dump
+pub record CutOf (start size here words : ℕ) : Type 0 where
+  pub aligned : start % 4 ≡ 0
+  pub some : 1 ≤ size
+  pub most : size ≤ 65535
+  pub end : start + 4 * size ≤ 4294967296
+  pub cut : ℕ
+  pub from : here ≡ start + 4 * (1016 * cut)
+  pub below : 1016 * cut < size
+  pub as-many : words ≡ min 1016 (size - 1016 * cut)
+
+pub record PacketCases (rows : List Row) (p : List ℕ) : Type 0 where
+  pub formed : Passes rows 4 (TelemetryFormed p)
+  pub apid : Passes rows 5 (apidOf p ≡ 788)
+  pub bytes : Passes rows 7 ((1 ≤ four p 24) × (four p 24 ≤ 1016) × (length p ≡ 28 + 4 * four p 24))
+  pub cut : Passes rows 9 (CutOf (four p 12) (four p 16) (four p 20) (four p 24))

@@ -7,13 +7,14 @@ use mathlib.Core.Bool.{Bool, true, false, _&&_, _||_}
 use mathlib.Core.List.{List, [], _∷_, _++_}
 use Prim.Native.Nat.{ℕ, _+_, _-_, _%_, _<_}
 use lib.Dec.{eqb}
-use lib.ListN.{length, take, replicate}
-use Rattle.rules.specs.States.{startRules, startUp, noState}
+use lib.ListN.{length, take, drop, replicate}
+use Rattle.rules.specs.States.{startRules, startUp}
 use Rattle.rules.specs.Results.{number, verdictNumber, answerNumber, answerLength, Row}
-use Rattle.rules.specs.Cases.{applies, oneOf, CommandCases, SlotCases}
+use Rattle.rules.specs.AnswerNumbers.{AnswerNumbers}
+use Rattle.rules.specs.Cases.{applies, oneOf, bytesOf, LayoutCases, CommandCases, SlotCases, WriterCases, PacketCases}
 use Rattle.rules.specs.Commands.{CommandArgs, Outcome, commandRows, commandCall}
 use Rattle.rules.specs.Slots.{SlotArgs, slotRows, slotCall}
-use Rattle.rules.specs.Ground.{writerRows, writeCommand, readerRows, readCommand, readingNumber, noWords, packetRows, readPacket, packetNumber}
+use Rattle.rules.specs.Ground.{writerRows, writeCommand, readerRows, readCommand, readingNumber, packetRows, readPacket, packetNumber}
 use Rattle.rules.specs.declared.State.{State}
 use Rattle.rules.specs.declared.Place.{Place}
 use Rattle.rules.specs.declared.Context.the-variants.{Idle}
@@ -58,7 +59,7 @@ stateWith s places last replies packets accepted refused =
 
 pub record CommandRefusals (s : State) (c : CommandArgs) (o : Outcome) : Type 0 where
   pub numbers : numbersOf (commandRows s c) ≡ 1 ∷ 2 ∷ 3 ∷ 4 ∷ 5 ∷ 6 ∷ 7 ∷ 8 ∷ 9 ∷ 10 ∷ 11 ∷ 12 ∷ 13 ∷ 14 ∷ 15 ∷ []
-  pub cases : CommandCases s c
+  pub cases : CommandCases (commandRows s c) s c
   pub lowest : Lowest (commandRows s c) (answerNumber (o .answer))
   -- on every number but 0 image and reply buffer stay, and no length is reported
   pub kept : answerNumber (o .answer) ≢ 0 → (o .image ≡ c .image) × (o .buffer ≡ c .reply) × (answerLength (o .answer) ≡ 0)
@@ -72,7 +73,7 @@ pub record CommandRefusals (s : State) (c : CommandArgs) (o : Outcome) : Type 0 
 
 pub record SlotRefusals (s : State) (c : SlotArgs) (o : Outcome) : Type 0 where
   pub numbers : numbersOf (slotRows s c) ≡ 1 ∷ 2 ∷ 3 ∷ 16 ∷ []
-  pub cases : SlotCases s c
+  pub cases : SlotCases (slotRows s c) s c
   pub lowest : Lowest (slotRows s c) (answerNumber (o .answer))
   pub kept : answerNumber (o .answer) ≢ 0 → (o .state ≡ s) × (o .buffer ≡ c .buffer) × (answerLength (o .answer) ≡ 0)
   -- a slot never writes the image, nor the counts of commands
@@ -96,6 +97,11 @@ pub record StartRefusals (rs : List Region) (n : ℕ) (pools : List Range) (unit
         accepted = 0;
         refused = 0;
       }
+  -- every later call refuses that state with 1
+  pub no-command : (c : CommandArgs) → verdictNumber (startUp rs n pools unit .verdict) ≡ 17
+      → answerNumber (commandCall (startUp rs n pools unit .state) c .answer) ≡ 1
+  pub no-slot : (c : SlotArgs) → verdictNumber (startUp rs n pools unit .verdict) ≡ 17
+      → answerNumber (slotCall (startUp rs n pools unit .state) c .answer) ≡ 1
   pub fresh : verdictNumber (startUp rs n pools unit .verdict) ≡ 0
       → startUp rs n pools unit .state
       ≡ record {
@@ -113,14 +119,19 @@ pub record StartRefusals (rs : List Region) (n : ℕ) (pools : List Range) (unit
 
 pub record GroundRefusals (h : Header) (k : Command) (ws buffer p : List ℕ) : Type 0 where
   pub writer-numbers : numbersOf (writerRows h k buffer) ≡ 3 ∷ 9 ∷ []
+  pub writer-cases : WriterCases (writerRows h k buffer) h k buffer
   pub writer : Lowest (writerRows h k buffer) (answerNumber (writeCommand h k ws buffer .answer))
   pub writer-kept : answerNumber (writeCommand h k ws buffer .answer) ≢ 0
       → (writeCommand h k ws buffer .buffer ≡ buffer) × (answerLength (writeCommand h k ws buffer .answer) ≡ 0)
   pub writer-lent : length (writeCommand h k ws buffer .buffer) ≡ length buffer
+  -- bytes past the packet stay
+  pub writer-rest : drop (bytesOf k) (writeCommand h k ws buffer .buffer) ≡ drop (bytesOf k) buffer
   pub reader-numbers : numbersOf (readerRows p) ≡ 4 ∷ 5 ∷ 6 ∷ 7 ∷ 9 ∷ []
+  pub reader-cases : LayoutCases (readerRows p) p
   pub reader : Lowest (readerRows p) (readingNumber (readCommand p .reading))
-  pub reader-empty : readingNumber (readCommand p .reading) ≢ 0 → readCommand p .words ≡ noWords
+  pub reader-empty : readingNumber (readCommand p .reading) ≢ 0 → readCommand p .words ≡ replicate 11 0
   pub packet-numbers : numbersOf (packetRows p) ≡ 4 ∷ 5 ∷ 7 ∷ 9 ∷ []
+  pub packet-cases : PacketCases (packetRows p) p
   pub packet : Lowest (packetRows p) (packetNumber (readPacket p .reading))
   pub packet-empty : packetNumber (readPacket p .reading) ≢ 0 → readPacket p .part ≡ []
 
@@ -128,7 +139,6 @@ pub record Demand1 : Type 0 where
   pub command : (s : State) (c : CommandArgs) → CommandRefusals s c (commandCall s c)
   pub slot : (s : State) (c : SlotArgs) → SlotRefusals s c (slotCall s c)
   pub start : (rs : List Region) (n : ℕ) (pools : List Range) (unit : ℕ) → StartRefusals rs n pools unit
-  -- the state that start-up gives with 17 is refused with 1 by every later call
-  pub no-command : (c : CommandArgs) → answerNumber (commandCall noState c .answer) ≡ 1
-  pub no-slot : (c : SlotArgs) → answerNumber (slotCall noState c .answer) ≡ 1
+  -- each case of each answer has its number
+  pub answers : AnswerNumbers
   pub ground : (h : Header) (k : Command) (ws buffer p : List ℕ) → GroundRefusals h k ws buffer p

@@ -6,15 +6,16 @@ use mathlib.Core.Bool.{Bool, true, false, cond, not}
 use mathlib.Core.List.{List, [], _∷_, _++_}
 use Prim.Native.Nat.{ℕ, suc, _+_, _*_, _%_, _≤_, _<_}
 use lib.ListN.{length, getD, take, drop}
-use Rattle.wire.specs.Bytes.{AreBytes, beAt, wordsAt}
-use Rattle.rules.specs.Regions.{startOf, rangeAt, anyRight, inOneRegion, imageLength, imageIndex, indexIn}
+use Rattle.wire.specs.Bytes.{AreBytes}
+use Rattle.wire.specs.ByByte.{two, four}
+use Rattle.rules.specs.Regions.{startOf, inOneRegion, imageLength}
 use Rattle.rules.specs.States.{startRules, startUp, poolAt, contextAt, busyWith, goodState}
 use Rattle.rules.specs.Cases.{Formed, rangeOf, poolOf, NumberFree, NumberBusy, PlaceFree}
-use Rattle.rules.specs.GoodWhen.{LiesIn, DumpableIn, GoodStart, Good}
-use Rattle.rules.specs.Packets.{primaryRules, versionOf, typeOf, secondHeaderOf, sequenceFlagsOf, sequenceCountOf, unitAt, transactionAt, headerAt, zeroBitOf, functionCodeOf, apidOf, commandUnit, commandTransaction}
-use Rattle.rules.specs.Pools.{Block, blockOf, Tiles, isFree, isUsed, words, blocks, largest, replyBytes}
+use Rattle.rules.specs.GoodWhen.{LiesIn, DumpableIn, Lies, firstWord, GoodStart, Good}
+use Rattle.rules.specs.Packets.{functionCodeOf, apidOf, commandUnit, commandTransaction}
+use Rattle.rules.specs.Pools.{Block, blockOf, Tiles, isFree, isUsed, words, blocks, largest}
 use Rattle.rules.specs.Results.{verdictNumber, answerNumber, answerLength}
-use Rattle.rules.specs.Commands.{CommandArgs, Outcome, commandCall, newDump, poolWords}
+use Rattle.rules.specs.Commands.{CommandArgs, Outcome, commandCall, poolWords}
 use Rattle.rules.specs.Demand1.{stateWith}
 use Rattle.rules.specs.Slots.{SlotArgs, slotCall, nextWords, packetBytes, afterPacket}
 use Rattle.rules.specs.declared.ActiveDump.{ActiveDump}
@@ -87,7 +88,8 @@ pub record DumpDone (s : State) (c : CommandArgs) (o : Outcome) : Type 0 where
   pub i : ℕ
   pub idle : contextAt (s .places) i ≡ Idle
   pub lowest : (j : ℕ) → j < i → contextAt (s .places) j ≢ Idle
-  pub now : contextAt (o .state .places) i ≡ Busy (newDump (commandTransaction (c .packet)) (rangeOf (c .packet)))
+  pub now : contextAt (o .state .places) i
+      ≡ Busy (record { transaction = commandTransaction (c .packet); range = rangeOf (c .packet); sent = 0 })
   pub rest : OnePlace (s .places) i (o .state .places)
   pub state : o .state ≡ afterCommand s (o .state .places) (s .replies)
   pub image : o .image ≡ c .image
@@ -103,14 +105,17 @@ pub record CancelDone (s : State) (c : CommandArgs) (o : Outcome) : Type 0 where
   pub image : o .image ≡ c .image
   pub reply : (o .buffer ≡ c .reply) × (answerLength (o .answer) ≡ 0)
 
--- Of the image, the addressed words are those of the packet and every other word is as it was: `first` is the index of the range's first
--- word, whichever region it lies in.
+-- Of the image, the addressed words are those of the packet and every other word is as it was: the range lies in a region from one of its
+-- words on, and `first` is the index of that word.
 pub record LoadDone (s : State) (c : CommandArgs) (o : Outcome) : Type 0 where
+  pub region : ℕ
+  pub offset : ℕ
+  pub lies : Lies (s .regions) (s .count) (rangeOf (c .packet)) region offset
   pub first : ℕ
-  pub index : (i : ℕ) → LiesIn anyRight (s .regions) (s .count) (rangeOf (c .packet)) i → first ≡ indexIn (s .regions) (rangeOf (c .packet)) i
+  pub index : first ≡ firstWord (s .regions) region + offset
   pub inside : first + rangeOf (c .packet) .words ≤ length (c .image)
   pub as-long : length (o .image) ≡ length (c .image)
-  pub written : (k : ℕ) → k < rangeOf (c .packet) .words → getD (o .image) (first + k) 0 ≡ beAt 4 (c .packet) (16 + 4 * k)
+  pub written : (k : ℕ) → k < rangeOf (c .packet) .words → getD (o .image) (first + k) 0 ≡ four (c .packet) (16 + 4 * k)
   pub below : (x : ℕ) → x < first → getD (o .image) x 0 ≡ getD (c .image) x 0
   pub above : (x : ℕ) → first + rangeOf (c .packet) .words ≤ x → getD (o .image) x 0 ≡ getD (c .image) x 0
   pub state : o .state ≡ afterCommand s (s .places) (s .replies)
@@ -139,6 +144,16 @@ pub record FiguresAre (bs : List Block) : Type 0 where
   pub bounds : (i : ℕ) → sizeAt (picked (λ b. not (b .used)) bs) i ≤ largest isFree bs
   pub reached : (i : ℕ) × (largest isFree bs ≡ sizeAt (picked (λ b. not (b .used)) bs) i)
 
+-- THE REPLY, BY BYTE OFFSET
+
+-- what every telemetry packet begins with: version 0, type 0, no second header and the APID; sequence flags 3 and the count; packet bytes minus 7;
+-- unit and transaction
+pub record TelemetryHeader (apid count unit transaction : ℕ) (p : List ℕ) : Type 0 where
+  pub kind : two p 0 ≡ apid
+  pub sequence : two p 2 ≡ 49152 + count
+  pub length-field : two p 4 + 7 ≡ length p
+  pub identity : two p 6 ≡ 4096 * unit + transaction
+
 -- a block's first word: the top bit says used, the low 31 bits are the size
 abbrev pub BlockBits : ℕ → Type 0
 BlockBits w = (w ≡ cond (blockOf w .used) 2147483648 0 + blockOf w .size) × (blockOf w .size < 2147483648)
@@ -147,15 +162,14 @@ BlockBits w = (w ≡ cond (blockOf w .used) 2147483648 0 + blockOf w .size) × (
 pub record PoolDone (s : State) (c : CommandArgs) (o : Outcome) : Type 0 where
   pub found : List Block
   pub tiles : Tiles (poolWords s (poolOf (c .packet)) (c .image)) found
-  pub figures : wordsAt 5 (o .buffer) 12 ≡ words isFree found ∷ blocks isFree found ∷ largest isFree found ∷ words isUsed found ∷ blocks isUsed found ∷ []
+  -- five words from byte 12 on: free words, free blocks, size of the largest free block, used words, used blocks
+  pub free : (four (o .buffer) 12 ≡ words isFree found) × (four (o .buffer) 16 ≡ blocks isFree found) × (four (o .buffer) 20 ≡ largest isFree found)
+  pub used : (four (o .buffer) 24 ≡ words isUsed found) × (four (o .buffer) 28 ≡ blocks isUsed found)
   pub size : words isFree found + words isUsed found ≡ poolAt (s .pools) (poolOf (c .packet)) .words
   pub reported : answerLength (o .answer) ≡ 32
-  -- a telemetry packet of APID 785 with the reply count, the box's unit, the command's transaction number and pool, and 16 zero bits
-  pub primary : primaryRules 0 0 (take 32 (o .buffer)) ≡ true
-  pub apid : apidOf (o .buffer) ≡ 785
-  pub header : headerAt (o .buffer) 6 ≡ record { count = s .replies; unit = s .unit; transaction = commandTransaction (c .packet) }
-  pub pool : (beAt 2 (o .buffer) 8 ≡ poolOf (c .packet)) × (beAt 2 (o .buffer) 10 ≡ 0)
-  pub reply : take 32 (o .buffer) ≡ replyBytes (s .replies) (s .unit) (commandTransaction (c .packet)) (poolOf (c .packet)) found
+  -- a telemetry packet of APID 785 with the reply count, the box's unit and the command's transaction number; its pool, and 16 zero bits
+  pub header : TelemetryHeader 785 (s .replies) (s .unit) (commandTransaction (c .packet)) (take 32 (o .buffer))
+  pub pool : (two (o .buffer) 8 ≡ poolOf (c .packet)) × (two (o .buffer) 10 ≡ 0)
   pub rest : drop 32 (o .buffer) ≡ drop 32 (c .reply)
   pub state : o .state ≡ afterCommand s (s .places) ((s .replies + 1) % 16384)
   pub image : o .image ≡ c .image
@@ -206,21 +220,6 @@ pub record Demand2 : Type 0 where
   pub region-when : (right : Region → Bool) (rs : List Region) (n : ℕ) (a : Range) → (inOneRegion right rs n a ≡ true) ↔ ((i : ℕ) × LiesIn right rs n a i)
   pub start-when : (rs : List Region) (n : ℕ) (pools : List Range) (unit : ℕ) → (startRules rs n pools unit ≡ true) ↔ GoodStart rs n pools unit
   pub good-when : (s : State) → (goodState s ≡ true) ↔ Good s
-  -- a range of at least one word in a good state's table begins in the image where its region's words say, and lies whole in the image
-  pub located : (s : State) (r : Range) (i : ℕ) → goodState s ≡ true → 1 ≤ r .words → LiesIn anyRight (s .regions) (s .count) r i
-      → (imageIndex (s .regions) (s .count) r .0 ≡ indexIn (s .regions) r i)
-      × (indexIn (s .regions) r i + r .words ≤ imageLength (s .regions) (s .count))
-  -- the regions lie back to back in table order, from index 0 on, a word for each four bytes
-  pub image-first : (rs : List Region) → indexIn rs (rangeAt rs 0) 0 ≡ 0
-  pub image-next : (rs : List Region) (i : ℕ) → indexIn rs (rangeAt rs (suc i)) (suc i) ≡ indexIn rs (rangeAt rs i) i + rangeAt rs i .words
-  pub image-word : (rs : List Region) (a : Range) (i k : ℕ) → startOf a ≡ startOf (rangeAt rs i) + 4 * k → indexIn rs a i ≡ indexIn rs (rangeAt rs i) i + k
-  -- the bits of a packet's first bytes, each in one field
-  pub bits : (p : List ℕ) → AreBytes p
-      → (beAt 2 p 0 ≡ 8192 * versionOf p + 4096 * typeOf p + 2048 * secondHeaderOf p + apidOf p)
-      × (typeOf p < 2) × (secondHeaderOf p < 2) × (apidOf p < 2048)
-      × (beAt 2 p 2 ≡ 16384 * sequenceFlagsOf p + sequenceCountOf p) × (sequenceCountOf p < 16384)
-      × (getD p 6 0 ≡ 128 * zeroBitOf p + functionCodeOf p) × (functionCodeOf p < 128)
-      × ((at : ℕ) → (beAt 2 p at ≡ 4096 * unitAt p at + transactionAt p at) × (transactionAt p at < 4096))
   -- a good state stays good under every call, and start-up answered 0 gives a good one
   pub command-good : (s : State) (c : CommandArgs) → AreBytes (c .packet) → goodState s ≡ true → goodState (commandCall s c .state) ≡ true
   pub slot-good : (s : State) (c : SlotArgs) → goodState s ≡ true → goodState (slotCall s c .state) ≡ true

@@ -3,7 +3,7 @@
 use mathlib.Core.Path.{_≡_}
 use mathlib.Core.Bool.{true}
 use mathlib.Core.List.{List, [], _∷_, _++_, map}
-use Prim.Native.Nat.{ℕ, _+_, _*_}
+use Prim.Native.Nat.{ℕ, zero, suc, _+_, _*_}
 use lib.ListN.{length, take, drop, replicate}
 use Rattle.rules.specs.Regions.{noRange}
 use Rattle.rules.specs.States.{startUp}
@@ -80,6 +80,14 @@ four = 0x11111111 ∷ 0x22222222 ∷ 0x33333333 ∷ 0x44444444 ∷ []
 abbrev pub usual : State
 usual = fresh (both 0x1000 4 ∷ [])
 
+-- an image of 1,017 words, 7 but for the first and the last; and the word 7 in bytes, n times
+abbrev pub long : List ℕ
+long = 0x01020304 ∷ replicate 1015 7 ++ 0x0A0B0C0D ∷ []
+
+abbrev pub sevens : ℕ → List ℕ
+sevens zero = []
+sevens (suc n) = 0 ∷ 0 ∷ 0 ∷ 7 ∷ sevens n
+
 pub record Examples : Type 0 where
   pub e1 : dump 0x123 2 0x1004 ≡ 0x1E ∷ 0x44 ∷ 0xC0 ∷ 0x00 ∷ 0x00 ∷ 0x09 ∷ 0x00 ∷ 0x78 ∷ 0x21 ∷ 0x23 ∷ 0x00 ∷ 0x02 ∷ 0x00 ∷ 0x00 ∷ 0x10 ∷ 0x04 ∷ []
   -- E1 is answered 0, the slot after it 0, and the next slot 16
@@ -108,6 +116,14 @@ pub record Examples : Type 0 where
   pub e8-two : sent (fresh (both 0x1000 1017 ∷ []))
       (send (replicate 1017 7) (dump 0x123 1017 0x1000) ∷ slotAt (replicate 1017 7) 5 ∷ slotAt (replicate 1017 7) 6 ∷ slotAt (replicate 1017 7) 7 ∷ [])
       ≡ 4092 ∷ 32 ∷ []
+  -- both packets of 1,017 words, byte for byte
+  pub e8-bytes : written (fresh (both 0x1000 1017 ∷ [])) (send long (dump 0x123 1017 0x1000) ∷ slotAt long 5 ∷ slotAt long 6 ∷ [])
+      ≡ []
+      ∷ (0x03 ∷ 0x14 ∷ 0xC0 ∷ 0x00 ∷ 0x0F ∷ 0xF5 ∷ 0x21 ∷ 0x23 ∷ 0x00 ∷ 0x00 ∷ 0x00 ∷ 0x05 ∷ 0x00 ∷ 0x00 ∷ 0x10 ∷ 0x00 ∷ 0x00 ∷ 0x00
+      ∷ 0x03 ∷ 0xF9 ∷ 0x00 ∷ 0x00 ∷ 0x10 ∷ 0x00 ∷ 0x00 ∷ 0x00 ∷ 0x03 ∷ 0xF8 ∷ 0x01 ∷ 0x02 ∷ 0x03 ∷ 0x04 ∷ sevens 1015)
+      ∷ (0x03 ∷ 0x14 ∷ 0xC0 ∷ 0x01 ∷ 0x00 ∷ 0x19 ∷ 0x21 ∷ 0x23 ∷ 0x00 ∷ 0x00 ∷ 0x00 ∷ 0x06 ∷ 0x00 ∷ 0x00 ∷ 0x10 ∷ 0x00 ∷ 0x00 ∷ 0x00
+      ∷ 0x03 ∷ 0xF9 ∷ 0x00 ∷ 0x00 ∷ 0x1F ∷ 0xE0 ∷ 0x00 ∷ 0x00 ∷ 0x00 ∷ 0x01 ∷ 0x0A ∷ 0x0B ∷ 0x0C ∷ 0x0D ∷ [])
+      ∷ []
   -- the m of demand 3, and its 4 m slots
   pub e8-pieces : map due (1016 ∷ 1017 ∷ 65535 ∷ []) ≡ 1 ∷ 2 ∷ 65 ∷ []
   pub e8-slots : 4 * due 65535 ≡ 260

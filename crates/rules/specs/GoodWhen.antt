@@ -3,9 +3,9 @@
 use mathlib.Core.Path.{_≡_}
 use mathlib.Core.Logic.{_≢_}
 use mathlib.Core.Bool.{Bool, true}
-use mathlib.Core.List.{List}
-use Prim.Native.Nat.{ℕ, suc, _%_, _≤_, _<_}
-use lib.ListN.{length}
+use mathlib.Core.List.{List, [], _∷_}
+use Prim.Native.Nat.{ℕ, suc, _+_, _*_, _%_, _≤_, _<_}
+use lib.ListN.{length, take}
 use Rattle.rules.specs.Regions.{startOf, endOf, regionAt, rangeAt}
 use Rattle.rules.specs.States.{poolAt, contextAt}
 use Rattle.rules.specs.declared.ActiveDump.{ActiveDump}
@@ -25,6 +25,23 @@ pub record LiesIn (right : Region → Bool) (rs : List Region) (n : ℕ) (a : Ra
 -- whole in one region with dump right
 abbrev pub DumpableIn : List Region → ℕ → Range → Type 0
 DumpableIn rs n a = (i : ℕ) × LiesIn (λ (g : Region). g .dump) rs n a i
+
+-- WHERE A RANGE LIES IN THE IMAGE: word `offset` of region i, counted from 0, is word `firstWord i + offset` of the image
+
+-- how many words these regions have in all
+abbrev pub wordsIn : List Region → ℕ
+wordsIn [] = 0
+wordsIn (r ∷ rs) = r .range .words + wordsIn rs
+
+-- the index in the image of region i's first word: the regions before it lie there back to back
+abbrev pub firstWord : List Region → ℕ → ℕ
+firstWord rs i = wordsIn (take i rs)
+
+-- the range a lies whole in region i of the table, from word `offset` of that region on
+pub record Lies (rs : List Region) (n : ℕ) (a : Range) (i offset : ℕ) : Type 0 where
+  pub in-use : i < n
+  pub from : a .start .0 ≡ rangeAt rs i .start .0 + 4 * offset
+  pub to : offset + a .words ≤ rangeAt rs i .words
 
 pub record GoodRegion (rs : List Region) (n i : ℕ) : Type 0 where
   pub aligned : startOf (rangeAt rs i) % 4 ≡ 0

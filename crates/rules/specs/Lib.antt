@@ -8,9 +8,12 @@ pub mod Slots
 pub mod Ground
 pub mod GoodWhen
 pub mod Cases
+pub mod AnswerNumbers
 pub mod Demand1
 pub mod Demand2
 pub mod Demand3
 pub mod ReadBack
 pub mod Examples
 pub mod FurtherExamples
+pub mod PlainWords
+pub mod PlainBytes

@@ -12,6 +12,7 @@ use Rattle.rules.specs.Regions.{startOf, imageLength}
 use Rattle.rules.specs.States.{goodState}
 use Rattle.rules.specs.Packets.{packetLength, commandBytes}
 use Rattle.rules.specs.Results.{answerNumber, answerLength}
+use Rattle.rules.specs.Cases.{FieldsAllowed}
 use Rattle.rules.specs.Slots.{SlotArgs, slotCall, nextWords}
 use Rattle.rules.specs.Demand2.{SlotDone}
 use Rattle.rules.specs.Ground.{writeCommand, readCommand, readPacket, packetNumber}
@@ -45,13 +46,6 @@ usedBy (Dump q) = 0
 usedBy Cancel = 0
 usedBy (Load q) = q .size
 usedBy (PoolStatistics i) = 0
-
--- what number 9 asks of a command's fields
-abbrev pub FieldsAllowed : Command → Type 0
-FieldsAllowed (Dump q) = (q .address .0 % 4 ≡ 0) × (1 ≤ q .size)
-FieldsAllowed Cancel = Unit {0}
-FieldsAllowed (Load q) = (q .address .0 % 4 ≡ 0) × (1 ≤ q .size) × (q .size ≤ 11)
-FieldsAllowed (PoolStatistics i) = i ≤ 1
 
 -- what the writer asks: room for the packet, and fields within their bounds
 pub record Writes (h : Header) (k : Command) (buffer : List ℕ) : Type 0 where

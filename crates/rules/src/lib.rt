@@ -5,6 +5,8 @@ ghost use Rattle.rules.specs.Demand1.{Demand1};
 ghost use Rattle.rules.specs.Demand2.{Demand2};
 ghost use Rattle.rules.specs.Demand3.{Demand3};
 ghost use Rattle.rules.specs.ReadBack.{ReadBack};
+ghost use Rattle.rules.specs.PlainBytes.{PlainBytes};
+ghost use Rattle.rules.specs.PlainWords.{PlainWords};
 
 // A byte address.
 pub struct Address(pub u32);
@@ -198,4 +200,14 @@ pub fn demand_3()
 // Packets are written and read back as laid down.
 pub fn packets_read_back()
     ensures { λ r. ⌜ ReadBack ⌝ }
+{}
+
+// What the shared definitions say of a packet's bytes, by their offset.
+pub fn plain_bytes()
+    ensures { λ r. ⌜ PlainBytes ⌝ }
+{}
+
+// What the shared definitions say of tables, places and the image's words, by their index.
+pub fn plain_words()
+    ensures { λ r. ⌜ PlainWords ⌝ }
 {}

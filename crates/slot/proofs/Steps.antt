@@ -35,6 +35,7 @@ use Rattle.rules.specs.declared.Refusal.{Refusal}
 use Rattle.rules.specs.declared.Refusal.the-variants.{NothingToSend}
 use Rattle.rules.specs.declared.State.{State}
 use Rattle.rules.specs.declared.Verdict.the-variants.{Accepted, Rejected}
+use Rattle.rules.specs.declared.WordIndex.{WordIndex}
 use Rattle.regions.specs.declared.Found.{Found}
 use Rattle.regions.specs.declared.Found.the-variants.{Nowhere, At}
 use Rattle.regions.specs.declared.Spot.{Spot}
@@ -163,60 +164,57 @@ module _ (s : State) (d : ActiveDump) (image buffer : List ℕ) (h : Ready s d i
       unfolding findRegion
       found-index = let q = rw (h .inside) at (sym (e (h .regions)) ∙ k) in cc
 
-      -- where the words that are sent begin in the image
-      abbrev from : ℕ
-      from = spot .index .0 + d .sent
+      -- the first word that is sent, and the words that are cut out of the image
+      module _ (small : length image ≤ 18446744073709551615) (first : WordIndex) (e₁ : first .0 ≡ min (spot .index .0 + d .sent) 18446744073709551615)
+          (part : List ℕ) (ep : first .0 + n ≤ length image → part ≡ take n (drop (first .0) image)) where
+        first-word : first .0 ≡ imageIndex (s .regions) (s .count) (d .range) .0 + d .sent
+        first-word = omega (arith, h .whole, h .more, found-index)
 
-      pub part-fits : from + n ≤ length image
-      part-fits = omega (arith, h .whole, h .more, found-index)
+        part-fits : first .0 + n ≤ length image
+        part-fits = omega (arith, h .whole, h .more, first-word)
 
-      -- the part of the image that is copied
-      abbrev part : List ℕ
-      part = take (from + n - from) (drop from image)
+        part-length : length part ≡ n
+        part-length = rw (ep part-fits) (simp (length-take, length-drop) (omega (arith, part-fits)))
 
-      part-length : length part ≡ n
-      part-length = simp (length-take, length-drop) (omega (arith, part-fits))
+        part-words : part ≡ nextWords s image d
+        unfolding nextWords wordsOf pieceWords
+        part-words =
+            rw (ep part-fits, first-word, en) (sym (part-of-part 1016 (d .sent) (d .range .words) (imageIndex (s .regions) (s .count) (d .range) .0) image))
 
-      part-words : part ≡ nextWords s image d
-      unfolding nextWords wordsOf pieceWords
-      part-words =
-          let m : from + n - from ≡ min 1016 (d .range .words - d .sent) = omega arith in
-          rw (m, found-index) (sym (part-of-part 1016 (d .sent) (d .range .words) (imageIndex (s .regions) (s .count) (d .range) .0) image))
+        module _ (tick : ℕ) where
+          -- the fields of a packet with m words
+          abbrev fields : ℕ → DumpPacket
+          fields m =
+              record {
+                header = record { count = s .packets; unit = s .unit; transaction = d .transaction };
+                tick = tick;
+                range = d .range;
+                here = record { 0 = startOf (d .range) + 4 * d .sent };
+                words = m;
+              }
 
-      module _ (tick : ℕ) where
-        -- the fields of a packet with m words
-        abbrev fields : ℕ → DumpPacket
-        fields m =
-            record {
-              header = record { count = s .packets; unit = s .unit; transaction = d .transaction };
-              tick = tick;
-              range = d .range;
-              here = record { 0 = startOf (d .range) + 4 * d .sent };
-              words = m;
-            }
+          same-packet : dumpPacketBytes (fields n) part ≡ packetBytes s tick d (nextWords s image d)
+          same-packet =
+              ap (λ (m : ℕ). dumpPacketBytes (fields m) part) (sym part-length)
+              ∙ sym (slot-packet s tick d part)
+              ∙ ap (packetBytes s tick d) part-words
 
-        same-packet : dumpPacketBytes (fields n) part ≡ packetBytes s tick d (nextWords s image d)
-        same-packet =
-            ap (λ (m : ℕ). dumpPacketBytes (fields m) part) (sym part-length)
-            ∙ sym (slot-packet s tick d part)
-            ∙ ap (packetBytes s tick d) part-words
-
-        pub packet-sent : (left : List ℕ) → (PacketFits (fields n) part buffer → left ≡ splice buffer 0 (dumpPacketBytes (fields n) part))
-            → Sent s tick d image buffer (28 + 4 * n) left
-        packet-sent left put =
-            let l = part-length in
-            let m = ap length part-words in
-            let fits : PacketFits (fields n) part buffer =
-            record {
-              count = h .count;
-              unit = h .unit;
-              transaction = h .transaction;
-              most = omega arith;
-              words = sym l;
-              room = omega (arith, h .room);
-            }
-            in
-            record {
-              size = omega (arith, packet-length s tick d (nextWords s image d));
-              packet = put fits ∙ ap (splice buffer 0) same-packet;
-            }
+          pub packet-sent : (left : List ℕ) → (PacketFits (fields n) part buffer → left ≡ splice buffer 0 (dumpPacketBytes (fields n) part))
+              → Sent s tick d image buffer (28 + 4 * n) left
+          packet-sent left put =
+              let l = part-length in
+              let m = ap length part-words in
+              let fits : PacketFits (fields n) part buffer =
+              record {
+                count = h .count;
+                unit = h .unit;
+                transaction = h .transaction;
+                most = omega arith;
+                words = sym l;
+                room = omega (arith, h .room);
+              }
+              in
+              record {
+                size = omega (arith, packet-length s tick d (nextWords s image d));
+                packet = put fits ∙ ap (splice buffer 0) same-packet;
+              }

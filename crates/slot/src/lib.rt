@@ -5,6 +5,8 @@ ghost use Rattle.rules.specs.Commands.{returned};
 ghost use Rattle.rules.specs.Slots.{slotCall};
 ghost use Rattle.slot.specs.Send.{Ready, Sent};
 use bulk::put_packet;
+use bulk::word_after;
+use bulk::words_at;
 use places::after_packet;
 use places::context_at;
 use places::next_place;
@@ -47,22 +49,22 @@ fn send(s: State, tick: u32, d: ActiveDump, image: &[u32], buffer: &mut [u8]) ->
         }
         Found::At(spot) => {
             let words = packet_words(range.words - sent);
-            let from = spot.index.0 + sent as usize;
-            let to = from + words as usize;
+            let first = word_after(spot.index, sent as usize);
+            let part = words_at(image, first, words as usize);
             let header = Header {
                 count: s.packets,
                 unit: s.unit,
                 transaction: d.transaction,
             };
-            let here = Address(range.start.0 + 4 * sent);
+            let address = range.start.0 + 4 * sent;
             let fields = DumpPacket {
                 header,
                 tick,
                 range,
-                here,
+                here: Address(address),
                 words,
             };
-            put_packet(buffer, fields, &image[from..to]);
+            put_packet(buffer, fields, part);
             return 28 + 4 * words as usize;
         }
     }

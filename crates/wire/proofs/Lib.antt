@@ -6,3 +6,4 @@ pub mod WordRuns
 pub mod Stores
 pub mod Modulo
 pub mod Xor
+pub mod ByByte

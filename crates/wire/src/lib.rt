@@ -5,6 +5,7 @@ ghost use lib.ListN.{getD, set};
 ghost use lib.Seq.{sets};
 ghost use Rattle.wire.specs.Bytes.{be, beAt};
 ghost use Rattle.wire.specs.Xor.{xorAll};
+ghost use Rattle.wire.specs.ByByte.{ByByte};
 
 // A byte as a wider number.
 pub fn wide16(x: u8) -> u16
@@ -82,3 +83,8 @@ pub fn xor_all(s: &[u8]) -> u8
     }
     x
 }
+
+// The definitions byte by byte. This function does nothing: its contract is what is proved.
+pub fn by_byte()
+    ensures { λ r. ⌜ ByByte ⌝ }
+{}

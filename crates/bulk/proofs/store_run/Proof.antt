@@ -13,10 +13,10 @@ use Rattle.bulk.proofs.store_run.Statement.{statement}
 use Rattle.bulk.proofs.store_run.Tie as tie
 
 abbrev Inv-loop : tie.InvT-loop
-Inv-loop image₀ at packet n i₀ image i = (i ≤ n) × (image ≡ splice image₀ at (take i (dataWords packet))) × (length image ≡ length image₀)
+Inv-loop image₀ packet n from i₀ image i = (i ≤ n) × (image ≡ splice image₀ from (take i (dataWords packet))) × (length image ≡ length image₀)
 
 abbrev μ-loop : tie.MeasureT-loop
-μ-loop image₀ at packet n i₀ image i = n - i
+μ-loop image₀ packet n from i₀ image i = n - i
 
 loop-holds : tie.Need-loop-holds Inv-loop μ-loop
 loop-holds c = (search needs, sym (splice-none _ _), search needs)
@@ -53,7 +53,7 @@ loop-again c =
     let p = start .args .packet .now in
     let k : i < length (dataWords p) = omega (arith, words-at-length 11 p 16) in
     let w : c .word-at .result ≡ getD (dataWords p) i 0 = c .word-at .ensures ∙ sym (words-at-word 11 p 16 i (omega arith)) in
-    (search needs, rw w (copy-turn (start .args .image .now) (at-loop .loop .image) (dataWords p) (start .args .at) i k (omega arith) (at-loop .loop .inv .1)), search needs)
+    (search needs, rw w (copy-turn (start .args .image .now) (at-loop .loop .image) (dataWords p) (start .args .at .0) i k (omega arith) (at-loop .loop .inv .1)), search needs)
 
 same-length : tie.Need-same-length Inv-loop μ-loop
 same-length c = search needs

@@ -3,7 +3,6 @@
 use Prim.Native.Nat.{ℕ, _%_}
 use mathlib.Core.Path.{sym, ap, _∙_}
 use borrow.Author.Tests.{not-true, not-false}
-use Rattle.command_reader.specs.ByCode.{readAs}
 use Rattle.command_reader.proofs.Steps.{malformed, other-apid, by-function-code}
 use borrow.Author.Needs.{needs}
 use Rattle.command_reader.proofs.reading_of.Statement.{statement}
@@ -28,7 +27,13 @@ by-code-requires : tie.Need-by-code-requires
 by-code-requires c κs = search needs
 
 returns-3 : tie.Need-returns-3
-returns-3 c = c .by-code .ensures ∙ ap (λ (x : ℕ). readAs (c .before .before .before .before .before .before .before .args .p .now) (x % 128)) (c .before .byte-at .ensures) ∙ by-function-code _ (sym (c .before .before .before .before .before .well-formed .ensures) ∙ not-false _ (c .before .before .before .before .if1 .left)) (sym (ap (λ (x : ℕ). x % 2048) (c .before .before .before .get16 .ensures)) ∙ c .before .before .if2 .left)
+returns-3 c =
+    let at-byte = c .before in
+    let at-apid = at-byte .before .before in
+    let at-formed = at-apid .before .before in
+    rw (c .by-code .ensures, at-byte .byte-at .ensures)
+    (by-function-code _ (sym (at-formed .well-formed .ensures) ∙ not-false _ (at-apid .before .if1 .left))
+    (sym (ap (λ (x : ℕ). x % 2048) (at-apid .get16 .ensures)) ∙ at-byte .before .if2 .left))
 
 pub reading-of-spec : {M : Type 1} → statement M
 reading-of-spec =

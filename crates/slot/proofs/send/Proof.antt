@@ -1,7 +1,9 @@
 -- `slot::send` meets its contract.
 -- Assumes nothing.
+use Prim.Native.Nat.{_≤_}
 use native.Mathlib.Omega.{arith}
-use Rattle.slot.proofs.Steps.{somewhere, part-fits, packet-sent}
+use lib.ListN.{length}
+use Rattle.slot.proofs.Steps.{somewhere, packet-sent}
 use Rattle.regions.proofs.Steps.{found-of-all}
 use borrow.Author.Needs.{needs}
 use Rattle.slot.proofs.send.Statement.{statement}
@@ -28,59 +30,23 @@ sub-packet-words c = search needs
 packet-words-requires : tie.Need-packet-words-requires
 packet-words-requires c κs = search needs
 
-cast-from : tie.Need-cast-from
-cast-from c = search needs
+cast-word-after : tie.Need-cast-word-after
+cast-word-after c = search needs
 
-add-from : tie.Need-add-from
-add-from c =
-    let at-words = c .before in
-    let at-spot = at-words .before .before .before in
-    let at-found = at-spot .before .before in
-    let start = at-found .before .before .before .before .before in
-    let fits = part-fits _ _ _ _ (start .pre) _ (found-of-all _ _ _ (at-found .find-region .ensures)) _ (at-spot .found .given .1) _ (at-words .packet-words .ensures) in
-    omega arith
+word-after-requires : tie.Need-word-after-requires
+word-after-requires c κs = search needs
 
-cast-to : tie.Need-cast-to
-cast-to c = search needs
+cast-words-at : tie.Need-cast-words-at
+cast-words-at c = search needs
 
-add-to : tie.Need-add-to
-add-to c =
-    let at-words = c .before in
-    let at-spot = at-words .before .before .before in
-    let at-found = at-spot .before .before in
-    let start = at-found .before .before .before .before .before in
-    let fits = part-fits _ _ _ _ (start .pre) _ (found-of-all _ _ _ (at-found .find-region .ensures)) _ (at-spot .found .given .1) _ (at-words .packet-words .ensures) in
-    omega arith
+words-at-requires : tie.Need-words-at-requires
+words-at-requires c κs = search needs
 
-mul-t17 : tie.Need-mul-t17
-mul-t17 c = search needs
+mul-address : tie.Need-mul-address
+mul-address c = search needs
 
-add-t19 : tie.Need-add-t19
-add-t19 c = search needs
-
-mul-put-packet : tie.Need-mul-put-packet
-mul-put-packet c =
-    let at-words = c .before .before .before in
-    let at-spot = at-words .before .before .before in
-    let at-found = at-spot .before .before in
-    let start = at-found .before .before .before .before .before in
-    let fits = part-fits _ _ _ _ (start .pre) _ (found-of-all _ _ _ (at-found .find-region .ensures)) _ (at-spot .found .given .1) _ (at-words .packet-words .ensures) in
-    omega arith
-
-sub-put-packet : tie.Need-sub-put-packet
-sub-put-packet c = search needs
-
-part-put-packet-start : tie.Need-part-put-packet-start
-part-put-packet-start c = search needs
-
-part-put-packet-end : tie.Need-part-put-packet-end
-part-put-packet-end c =
-    let at-words = c .before .before .before in
-    let at-spot = at-words .before .before .before in
-    let at-found = at-spot .before .before in
-    let start = at-found .before .before .before .before .before in
-    let fits = part-fits _ _ _ _ (start .pre) _ (found-of-all _ _ _ (at-found .find-region .ensures)) _ (at-spot .found .given .1) _ (at-words .packet-words .ensures) in
-    omega arith
+add-address : tie.Need-add-address
+add-address c = search needs
 
 put-packet-requires : tie.Need-put-packet-requires
 put-packet-requires c κs = search needs
@@ -100,11 +66,14 @@ same-length c = search needs
 returns-2 : tie.Need-returns-2
 returns-2 c =
     let at-put = c .before .before in
-    let at-words = c .before .before .before .before .before .before .before in
+    let at-part = at-put .before .before .before in
+    let at-first = at-part .before in
+    let at-words = at-first .before in
     let at-spot = at-words .before .before .before in
     let at-found = at-spot .before .before in
     let start = at-found .before .before .before .before .before in
-    packet-sent _ _ _ _ (start .pre) _ (found-of-all _ _ _ (at-found .find-region .ensures)) _ (at-spot .found .given .1) _ (at-words .packet-words .ensures) _ _ (at-put .put-packet .ensures .0)
+    let small : length (start .args .image .now) ≤ 18446744073709551615 = omega (arith, start .good) in
+    packet-sent _ _ _ _ (start .pre) _ (found-of-all _ _ _ (at-found .find-region .ensures)) _ (at-spot .found .given .1) _ (at-words .packet-words .ensures) small _ (at-first .word-after .ensures) _ (at-part .words-at .ensures .0) _ _ (at-put .put-packet .ensures .0)
 
 pub send-spec : {M : Type 1} → statement M
 send-spec =
@@ -116,16 +85,12 @@ send-spec =
     enum-known-found
     sub-packet-words
     packet-words-requires
-    cast-from
-    add-from
-    cast-to
-    add-to
-    mul-t17
-    add-t19
-    mul-put-packet
-    sub-put-packet
-    part-put-packet-start
-    part-put-packet-end
+    cast-word-after
+    word-after-requires
+    cast-words-at
+    words-at-requires
+    mul-address
+    add-address
     put-packet-requires
     cast-result
     mul-result

@@ -1,0 +1,143 @@
+-- PACKETS IN PLAIN BYTES: what each definition that reads or writes a field says of the packet's bytes, by their offset (paper 01, "Command
+-- packets", "Telemetry slots", "Ground reader and writer"). The calls and the demands share those definitions; this is what else fixes them.
+use mathlib.Core.Path.{_≡_}
+use mathlib.Core.Logic.{_≢_}
+use mathlib.Core.List.{List}
+use Prim.Native.Nat.{ℕ, _+_, _*_, _-_, _/_, _%_, _≤_, _<_, min}
+use lib.ListN.{length, getD, take, drop, replicate}
+use Rattle.wire.specs.Bytes.{AreBytes}
+use Rattle.wire.specs.ByByte.{byte, two, four}
+use Rattle.wire.specs.Xor.{xorAll}
+use Rattle.rules.specs.GoodWhen.{Lies, firstWord}
+use Rattle.rules.specs.Packets.{versionOf, typeOf, secondHeaderOf, apidOf, sequenceFlagsOf, sequenceCountOf, lengthFieldOf, unitAt, transactionAt, zeroBitOf, functionCodeOf, commandUnit, commandTransaction, decode, dataWords}
+use Rattle.rules.specs.Results.{answerNumber, answerLength}
+use Rattle.rules.specs.Cases.{rangeOf, poolOf, bytesOf}
+use Rattle.rules.specs.Slots.{SlotArgs, slotCall}
+use Rattle.rules.specs.Ground.{writeCommand, readCommand, readPacket}
+use Rattle.rules.specs.Demand2.{TelemetryHeader, SlotDone}
+use Rattle.rules.specs.ReadBack.{CommandFits, AreWords, SlotFits, packetOf}
+use Rattle.rules.specs.declared.ActiveDump.{ActiveDump}
+use Rattle.rules.specs.declared.Command.{Command}
+use Rattle.rules.specs.declared.Command.the-variants.{Dump, Cancel, Load, PoolStatistics}
+use Rattle.rules.specs.declared.Decoded.the-variants.{Unknown, Known}
+use Rattle.rules.specs.declared.DumpPacket.{DumpPacket}
+use Rattle.rules.specs.declared.Header.{Header}
+use Rattle.rules.specs.declared.PacketReading.the-variants.{Packet}
+use Rattle.rules.specs.declared.Reading.the-variants.{Read}
+use Rattle.rules.specs.declared.Request.{Request}
+use Rattle.rules.specs.declared.State.{State}
+use Rattle.rules.specs.declared.Telecommand.{Telecommand}
+
+-- THE FIELDS OF A PACKET, as the tests of numbers 4 to 9 and the demands read them
+
+-- the primary header, and unit and transaction at byte `at`
+pub record HeaderFields (p : List ℕ) : Type 0 where
+  pub version : versionOf p ≡ byte p 0 / 32
+  pub type : typeOf p ≡ byte p 0 / 16 % 2
+  pub second-header : secondHeaderOf p ≡ byte p 0 / 8 % 2
+  pub apid : apidOf p ≡ byte p 0 % 8 * 256 + byte p 1
+  pub sequence-flags : sequenceFlagsOf p ≡ byte p 2 / 64
+  pub sequence-count : sequenceCountOf p ≡ byte p 2 % 64 * 256 + byte p 3
+  pub length-field : lengthFieldOf p ≡ two p 4
+  pub unit : (at : ℕ) → unitAt p at ≡ byte p at / 16
+  pub transaction : (at : ℕ) → transactionAt p at ≡ byte p at % 16 * 256 + byte p (at + 1)
+
+-- the request of a dump or a load
+abbrev pub requestAt : List ℕ → Request
+requestAt p = record { size = two p 10; address = record { 0 = four p 12 } }
+
+-- a command packet
+pub record CommandFields (p : List ℕ) : Type 0 where
+  pub zero-bit : zeroBitOf p ≡ byte p 6 / 128
+  pub code : functionCodeOf p ≡ byte p 6 % 128
+  pub unit : commandUnit p ≡ byte p 8 / 16
+  pub transaction : commandTransaction p ≡ byte p 8 % 16 * 256 + byte p 9
+  pub range : rangeOf p ≡ record { start = record { 0 = four p 12 }; words = two p 10 }
+  pub pool : poolOf p ≡ two p 10
+  -- the command, by the code
+  pub dump : byte p 6 % 128 ≡ 0 → decode p ≡ Known (Dump (requestAt p))
+  pub cancel : byte p 6 % 128 ≡ 1 → decode p ≡ Known Cancel
+  pub load : byte p 6 % 128 ≡ 4 → decode p ≡ Known (Load (requestAt p))
+  pub statistics : byte p 6 % 128 ≡ 7 → decode p ≡ Known (PoolStatistics (two p 10))
+  pub other : byte p 6 % 128 ≢ 0 → byte p 6 % 128 ≢ 1 → byte p 6 % 128 ≢ 4 → byte p 6 % 128 ≢ 7 → decode p ≡ Unknown
+  -- the eleven data words of a load
+  pub words : length (dataWords p) ≡ 11
+  pub word : (k : ℕ) → k < 11 → getD (dataWords p) k 0 ≡ four p (16 + 4 * k)
+
+-- COMMANDS, WRITTEN AND READ
+
+abbrev pub codeIn : Command → ℕ
+codeIn (Dump q) = 0
+codeIn Cancel = 1
+codeIn (Load q) = 4
+codeIn (PoolStatistics i) = 7
+
+-- the body after unit and transaction; a load's words beyond its size are 0
+abbrev pub Body : Command → List ℕ → List ℕ → Type 0
+Body (Dump q) ws p = (two p 10 ≡ q .size) × (four p 12 ≡ q .address .0)
+Body Cancel ws p = Unit {0}
+Body (Load q) ws p =
+    (two p 10 ≡ q .size) × (four p 12 ≡ q .address .0)
+    × ((k : ℕ) → k < q .size → four p (16 + 4 * k) ≡ getD ws k 0)
+    × ((k : ℕ) → q .size ≤ k → k < 11 → four p (16 + 4 * k) ≡ 0)
+Body (PoolStatistics i) ws p = two p 10 ≡ i
+
+-- what the writer wrote. 7748 is type 1, second-header flag 1 and APID 1604
+pub record CommandWritten (h : Header) (k : Command) (ws p : List ℕ) : Type 0 where
+  pub bytes : length p ≡ bytesOf k
+  pub kind : two p 0 ≡ 7748
+  pub sequence : two p 2 ≡ 49152 + h .count
+  pub length-field : two p 4 + 7 ≡ length p
+  pub code : byte p 6 ≡ codeIn k
+  pub check : xorAll p ≡ 255
+  pub identity : two p 8 ≡ 4096 * h .unit + h .transaction
+  pub body : Body k ws p
+
+-- the data words beside a command that was read: those of a load, and else zeros
+abbrev pub Beside : Command → List ℕ → List ℕ → Type 0
+Beside (Dump q) p ws = ws ≡ replicate 11 0
+Beside Cancel p ws = ws ≡ replicate 11 0
+Beside (Load q) p ws = (length ws ≡ 11) × ((k : ℕ) → k < 11 → getD ws k 0 ≡ four p (16 + 4 * k))
+Beside (PoolStatistics i) p ws = ws ≡ replicate 11 0
+
+-- what the command reader gave of a packet
+pub record CommandGiven (p : List ℕ) (f : Telecommand) (ws : List ℕ) : Type 0 where
+  pub header : f .header
+      ≡ record { count = byte p 2 % 64 * 256 + byte p 3; unit = byte p 8 / 16; transaction = byte p 8 % 16 * 256 + byte p 9 }
+  pub command : decode p ≡ Known (f .command)
+  pub words : Beside (f .command) p ws
+
+-- DUMP PACKETS, WRITTEN AND READ
+
+-- the packet of a dump, in a slot lent this tick and image: seven fields in 28 bytes, then a whole cut of 1,016 words or what is left
+pub record PacketWritten (s : State) (c : SlotArgs) (d : ActiveDump) (p : List ℕ) : Type 0 where
+  pub header : TelemetryHeader 788 (s .packets) (s .unit) (d .transaction) p
+  pub tick : four p 8 ≡ c .tick
+  pub requested : (four p 12 ≡ d .range .start .0) × (four p 16 ≡ d .range .words)
+  pub own : (four p 20 ≡ d .range .start .0 + 4 * d .sent) × (four p 24 ≡ min 1016 (d .range .words - d .sent))
+  pub bytes : length p ≡ 28 + 4 * min 1016 (d .range .words - d .sent)
+  -- each word as the image has it, where the range lies in it
+  pub region : ℕ
+  pub offset : ℕ
+  pub lies : Lies (s .regions) (s .count) (d .range) region offset
+  pub word : (k : ℕ) → k < min 1016 (d .range .words - d .sent)
+      → four p (28 + 4 * k) ≡ getD (c .image) (firstWord (s .regions) region + offset + d .sent + k) 0
+
+-- what the dump packet reader gave of a packet, and the part that it handed back
+pub record PacketGiven (p : List ℕ) (f : DumpPacket) (part : List ℕ) : Type 0 where
+  pub header : f .header
+      ≡ record { count = byte p 2 % 64 * 256 + byte p 3; unit = byte p 6 / 16; transaction = byte p 6 % 16 * 256 + byte p 7 }
+  pub tick : f .tick ≡ four p 8
+  pub requested : f .range ≡ record { start = record { 0 = four p 12 }; words = four p 16 }
+  pub own : (f .here .0 ≡ four p 20) × (f .words ≡ four p 24)
+  pub handed-back : part ≡ drop 28 p
+
+pub record PlainBytes : Type 0 where
+  pub header-fields : (p : List ℕ) → AreBytes p → HeaderFields p
+  pub command-fields : (p : List ℕ) → AreBytes p → CommandFields p
+  pub command-written : (h : Header) (k : Command) (ws buffer : List ℕ) → CommandFits k → AreWords ws
+      → answerNumber (writeCommand h k ws buffer .answer) ≡ 0
+      → CommandWritten h k ws (take (answerLength (writeCommand h k ws buffer .answer)) (writeCommand h k ws buffer .buffer))
+  pub command-read : (p : List ℕ) (f : Telecommand) → AreBytes p → readCommand p .reading ≡ Read f → CommandGiven p f (readCommand p .words)
+  pub packet-written : (s : State) (c : SlotArgs) → SlotFits s c → (x : SlotDone s c (slotCall s c)) → PacketWritten s c (x .dump) (packetOf s c)
+  pub packet-read : (p : List ℕ) (f : DumpPacket) → AreBytes p → readPacket p .reading ≡ Packet f → PacketGiven p f (readPacket p .part)
