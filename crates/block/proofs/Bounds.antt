@@ -1,4 +1,4 @@
--- The bounds of a block's words, from the tests, and the tests from the steps of the code.
+-- The bounds of a block's words, from the tests.
 -- Assumes nothing.
 use mathlib.Core.Path.{_≡_}
 use mathlib.Core.Logic.{_≢_}
@@ -7,9 +7,9 @@ use mathlib.Core.List.{List}
 use Prim.Native.Nat.{ℕ, _≤_}
 use lib.Dec.{leb, eqb}
 use lib.ListN.{length}
-use borrow.Author.Tests.{leb-true, eqb-true, eq-eqb, ne-eqb}
+use borrow.Author.Tests.{leb-true, eqb-true, ne-eqb}
 use Rattle.lists.proofs.Tests.{and-left, and-right}
-use Rattle.block.specs.Blocks.{word, regionsBounds, placesBounds, countsBounds, isBlock, isTable}
+use Rattle.block.specs.Blocks.{word, regionsBounds, placesBounds, countsBounds, isBlock}
 
 -- four tests that all pass
 pub record Four (a b c d : Bool) : Type 0 where
@@ -69,22 +69,8 @@ block-out b h =
       counts = counts-out b (f .fourth);
     }
 
--- THE WHOLE BLOCK
+-- A BLOCK OF ANOTHER LENGTH
 
-module _ (b : List ℕ) where
-  pub not-block : length b ≢ 79 → false ≡ isBlock b
-  unfolding isBlock
-  not-block n = rw (ne-eqb (length b) 79 n)
-
-  pub block-tested : length b ≡ 79 → (r p c : Bool) (w : ℕ) → r ≡ regionsBounds b 1 → w ≡ word b 53 → p ≡ placesBounds b → c ≡ countsBounds b
-      → (r && leb w 255 && p && c) ≡ isBlock b
-  unfolding isBlock
-  block-tested n r p c w er ew ep ec = rw (eq-eqb (length b) 79 n, er, ew, ep, ec)
-
-  pub not-table : length b ≢ 54 → false ≡ isTable b
-  unfolding isTable
-  not-table n = rw (ne-eqb (length b) 54 n)
-
-  pub table-tested : length b ≡ 54 → (w : ℕ) (r : Bool) → w ≡ word b 0 → r ≡ regionsBounds b 6 → (leb w 255 && r) ≡ isTable b
-  unfolding isTable
-  table-tested n w r ew er = rw (eq-eqb (length b) 54 n, ew, er)
+pub not-block : (b : List ℕ) → length b ≢ 79 → isBlock b ≡ false
+unfolding isBlock
+not-block b n = rw (ne-eqb (length b) 79 n)

@@ -91,7 +91,7 @@ module _ (b : List ℕ) (g : BlockBounds b) where
   unfolding regionsBounds
   rights-low i l = leb-true (word b (1 + 3 * i + 2)) 3 (all-at (λ j. leb (word b (1 + 3 * j + 2)) 3) 16 (g .regions) l)
 
-  place-bounds : (i : ℕ) → i < 4 → placeBounds b (54 + 5 * i) ≡ true
+  pub place-bounds : (i : ℕ) → i < 4 → placeBounds b (54 + 5 * i) ≡ true
   place-bounds i l =
       let f = four-out (placeBounds b 54) (placeBounds b 59) (placeBounds b 64) (placeBounds b 69) (g .places) in at-place f i l
     where
@@ -147,18 +147,22 @@ module _ (b : List ℕ) (g : BlockBounds b) where
       each (suc (suc (suc (suc zero)))) l = refl
       each (suc (suc (suc (suc (suc k))))) l = absurd (omega arith)
 
-pub block-forth : (b : List ℕ) → ((i : ℕ) → word b i < 4294967296) → isBlock b ≡ true → blockOf (stateOf b) ≡ b
+-- only the number of regions has no bounds of its own
+pub block-of : (b : List ℕ) → word b 0 < 4294967296 → isBlock b ≡ true → blockOf (stateOf b) ≡ b
 unfolding blockOf stateOf
-block-forth b h e =
+block-of b h e =
     let g = block-out b e in
     let n = g .words in
     let rs = regionsWords (regionsIn b 1) in
     let ps = poolsWords (poolsIn b 49) ++ (word b 53 ∷ []) in
     let qs = placesWords (placesIn b 54) in
     let t = word b 74 ∷ word b 75 ∷ word b 76 ∷ word b 77 ∷ word b 78 ∷ [] in
-    ap (λ (u : List ℕ). u ++ rs ++ ps ++ qs ++ t) (head-front b g (h 0))
+    ap (λ (u : List ℕ). u ++ rs ++ ps ++ qs ++ t) (head-front b g h)
     ∙ ap (λ (u : List ℕ). u ++ ps ++ qs ++ t) (regions-front b g)
     ∙ ap (λ (u : List ℕ). u ++ qs ++ t) (pools-front b g)
     ∙ ap (λ (u : List ℕ). u ++ t) (places-front b g)
     ∙ tail-front b g
     ∙ take-all 79 b (omega arith)
+
+pub block-forth : (b : List ℕ) → ((i : ℕ) → word b i < 4294967296) → isBlock b ≡ true → blockOf (stateOf b) ≡ b
+block-forth b h e = block-of b (h 0) e

@@ -8,10 +8,11 @@ use native.Mathlib.Nat.{mul-suc, mul-zero, mul-le-mul-left, eq-or-lt-of-le}
 use native.Mathlib.Numerals.{add-one}
 use native.Mathlib.Omega.{arith}
 use lib.ListN.{length, getD, set, take, drop, replicate, length-append, length-take, length-drop, List·getD-append}
-use lib.Seq.{set-at, append-snoc, getD-append-add, getD-take, getD-drop, take-suc, take-add, ext-getD}
+use lib.Seq.{drop-length, set-at, append-snoc, getD-append-add, getD-take, getD-drop, take-suc, take-add, ext-getD}
+use Rattle.lists.specs.Splice.{splice}
 use Rattle.block.specs.Runs.{runs}
 
-pub runs-more : {A : Type 0} (f : ℕ → List A) (i : ℕ) → runs f (i + 1) ≡ runs f i ++ f i
+runs-more : {A : Type 0} (f : ℕ → List A) (i : ℕ) → runs f (i + 1) ≡ runs f i ++ f i
 unfolding runs
 runs-more f i = rw add-one
 
@@ -19,6 +20,12 @@ pub runs-length : {A : Type 0} (f : ℕ → List A) (w : ℕ) → ((i : ℕ) →
 unfolding runs
 runs-length f w h zero = sym (mul-zero w)
 runs-length f w h (suc n) = rw (length-append, runs-length f w h n, h n, mul-suc)
+
+-- only the lists below n count
+pub runs-same : {A : Type 0} (f g : ℕ → List A) (n : ℕ) → ((j : ℕ) → j < n → g j ≡ f j) → runs g n ≡ runs f n
+unfolding runs
+runs-same f g zero h = refl
+runs-same f g (suc n) h = rw (runs-same f g n (λ j l. h j (omega arith)), h n (omega arith))
 
 -- AN ARRAY FILLED element by element
 
@@ -97,3 +104,8 @@ front-runs b f w o h (suc n) room e =
     ∙ ap (λ (u : List ℕ). u ++ f n) (front-runs b f w o h n (omega arith) (λ i k l q. e i k (omega arith) q))
     ∙ front-more b (f n) (o + w * n) (omega arith) (λ k l. e n k (omega arith) (omega arith))
     ∙ ap (λ (x : ℕ). take x b) m
+
+-- A WRITE OF ALL WORDS of a list
+pub splice-all : (l v : List ℕ) → length v ≡ length l → splice l 0 v ≡ v
+unfolding splice
+splice-all l v e = let k : 0 + length v ≡ length l = omega arith in rw (k, drop-length) (append-nil v)

@@ -2,17 +2,16 @@
 -- Assumes nothing.
 use mathlib.Core.Path.{_≡_, refl, ap, _∙_}
 use mathlib.Core.Bool.{Bool, true, false, cond}
-use mathlib.Core.List.{List}
-use Prim.Native.Nat.{ℕ, zero, suc, _+_, _*_, _<_}
+use Prim.Native.Nat.{ℕ, _+_, _*_, _<_}
 use native.Mathlib.Omega.{arith}
-use lib.ListN.{replicate, getD-replicate}
+use lib.ListN.{getD-replicate}
 use Rattle.rules.specs.Regions.{regionAt}
 use Rattle.rules.specs.States.{contextAt}
 use Rattle.rules.specs.declared.ActiveDump.{ActiveDump}
 use Rattle.rules.specs.declared.Context.{Context}
 use Rattle.rules.specs.declared.Context.the-variants.{Idle, Busy}
 use Rattle.rules.specs.declared.State.{State}
-use Rattle.block.specs.Blocks.{rightsWord, regionWords, contextWords, word, blockOf}
+use Rattle.block.specs.Blocks.{rightsWord, regionWords, contextWords, word}
 use Rattle.block.specs.Layout.{at, Layout}
 use Rattle.block.proofs.Lengths.{block-length}
 use Rattle.block.proofs.Words.{count-word, region-word, pool-word, place-word, tail-word}

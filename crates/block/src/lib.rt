@@ -1,10 +1,18 @@
-// Blocks of the C interface, words of 32 bits in the caller's memory: which are a state and which are a table.
+// Blocks of the C interface, words of 32 bits in the caller's memory: a word, a range and a run of words, read and written. What a block
+// says of a state is in specs/Blocks.antt.
 ghost use mathlib.Core.Path.{_≡_};
-ghost use Prim.Native.Nat.{_<_};
-ghost use Rattle.block.specs.Blocks.{word, regionsBounds, placeBounds, placesBounds, countsBounds, isBlock, isTable};
+ghost use Prim.Native.Nat.{_+_, _%_, _≤_};
+ghost use lib.ListN.{length, set};
+ghost use Rattle.lists.specs.Splice.{splice};
+ghost use Rattle.block.specs.Blocks.{word, rangeIn};
 ghost use Rattle.block.specs.RoundTrip.{RoundTrip};
 ghost use Rattle.block.specs.Layout.{Layout};
+ghost use Rattle.block.specs.Changes.{BlockChanges};
 ghost use Rattle.rules.specs.declared.State.{State};
+use rules::Address;
+use rules::Range;
+
+// READ
 
 // Word `i`, and 0 past the end.
 pub fn word_at(b: &[u32], i: usize) -> u32
@@ -13,67 +21,69 @@ pub fn word_at(b: &[u32], i: usize) -> u32
     if i < b.len() { b[i] } else { 0 }
 }
 
-fn regions_bounds(b: &[u32], at: usize) -> bool
-    requires { ⌜ at < 7 ⌝ }
-    ensures { λ r. ⌜ r ≡ regionsBounds (now (b .entry)) at ⌝ }
+// The range in words `at` and `at + 1`.
+pub fn range_in(b: &[u32], at: usize) -> Range
+    ensures { λ r. ⌜ r ≡ rangeIn (now (b .entry)) at ⌝ }
 {
-    let mut all = true;
-    let mut i: usize = 0;
-    while i < 16 {
-        all = all & (word_at(b, at + 3 * i + 2) <= 3);
+    if b.len() <= at {
+        return Range {
+            start: Address(0),
+            words: 0,
+        };
+    }
+    let start = Address(b[at]);
+    let words = word_at(b, at + 1);
+    Range { start, words }
+}
+
+// WRITTEN
+
+// Word `i`; nothing is past the end.
+pub fn set_word(b: &mut [u32], i: usize, x: u32)
+    ensures { λ _. ⌜ now (b .exit) ≡ set (now (b .entry)) i x ⌝ }
+{
+    if i < b.len() {
+        b[i] = x;
+    }
+}
+
+// One more in word `i`, and 0 after `most`.
+pub fn raise(b: &mut [u32], i: usize, most: u32)
+    ensures { λ _. ⌜ now (b .exit) ≡ set (now (b .entry)) i ((word (now (b .entry)) i + 1) % (most + 1)) ⌝ }
+{
+    let n = word_at(b, i) as u64 + 1;
+    let more = n % (most as u64 + 1);
+    set_word(b, i, more as u32);
+}
+
+// The words of `v`, from index `at` on.
+fn copy_run(b: &mut [u32], at: usize, v: &[u32])
+    requires { ⌜ at + length (now v) ≤ length (now b) ⌝ }
+    ensures { λ _. ⌜ now (b .exit) ≡ splice (now (b .entry)) at (now (v .entry)) ⌝ }
+{
+    let mut i = 0;
+    while i < v.len() {
+        b[at + i] = v[i];
         i += 1;
     }
-    all
 }
 
-fn place_bounds(b: &[u32], at: usize) -> bool
-    requires { ⌜ at < 70 ⌝ }
-    ensures { λ r. ⌜ r ≡ placeBounds (now (b .entry)) at ⌝ }
+// The words of `v`, from index `at` on. Where they do not fit, nothing is written.
+pub fn put_run(b: &mut [u32], at: usize, v: &[u32])
+    ensures { λ _. ⌜
+        (at + length (now (v .entry)) ≤ length (now (b .entry)) → now (b .exit) ≡ splice (now (b .entry)) at (now (v .entry)))
+        × ((at + length (now (v .entry)) ≤ length (now (b .entry)) → ⊥) → now (b .exit) ≡ now (b .entry)) ⌝ }
 {
-    let busy = word_at(b, at);
-    let transaction = word_at(b, at + 1);
-    let start = word_at(b, at + 2);
-    let words = word_at(b, at + 3);
-    let sent = word_at(b, at + 4);
-    ((busy == 0) & (transaction == 0) & (start == 0) & (words == 0) & (sent == 0))
-        | ((busy == 1) & (transaction <= 65535))
-}
-
-fn places_bounds(b: &[u32]) -> bool
-    ensures { λ r. ⌜ r ≡ placesBounds (now (b .entry)) ⌝ }
-{
-    place_bounds(b, 54) & place_bounds(b, 59) & place_bounds(b, 64) & place_bounds(b, 69)
-}
-
-fn counts_bounds(b: &[u32]) -> bool
-    ensures { λ r. ⌜ r ≡ countsBounds (now (b .entry)) ⌝ }
-{
-    (word_at(b, 74) <= 255)
-        & (word_at(b, 75) <= 65535)
-        & (word_at(b, 76) <= 65535)
-        & (word_at(b, 77) <= 65535)
-        & (word_at(b, 78) <= 65535)
-}
-
-// Whether a block is a state: of its length, each word in its bounds.
-pub fn is_block(b: &[u32]) -> bool
-    ensures { λ r. ⌜ r ≡ isBlock (now (b .entry)) ⌝ }
-{
-    if b.len() != 79 {
-        return false;
+    if b.len() < at {
+        return;
     }
-    regions_bounds(b, 1) & (word_at(b, 53) <= 255) & places_bounds(b) & counts_bounds(b)
+    if b.len() - at < v.len() {
+        return;
+    }
+    copy_run(b, at, v);
 }
 
-// Whether a block is a table for start-up.
-pub fn is_table(b: &[u32]) -> bool
-    ensures { λ r. ⌜ r ≡ isTable (now (b .entry)) ⌝ }
-{
-    if b.len() != 54 {
-        return false;
-    }
-    (word_at(b, 0) <= 255) & regions_bounds(b, 6)
-}
+// WHAT A BLOCK SAYS
 
 // A state's block gives the state back, and a block that is a state is that state's block.
 pub fn round_trip()
@@ -83,4 +93,9 @@ pub fn round_trip()
 // What each word of a state's block is.
 pub fn block_layout()
     ensures { λ r. ⌜ ((s : State) → Layout s) ⌝ }
+{}
+
+// A change of the state changes the words of what changed, and no others.
+pub fn block_changes()
+    ensures { λ r. ⌜ BlockChanges ⌝ }
 {}

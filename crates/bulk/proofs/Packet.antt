@@ -2,8 +2,8 @@
 -- Assumes nothing.
 use mathlib.Core.Path.{_≡_, refl, sym, _∙_}
 use mathlib.Core.Bool.{Bool, true, false, _&&_, not}
-use mathlib.Core.List.{List, _++_}
-use Prim.Native.Nat.{ℕ, _+_, _*_, _/_, _%_, _≤_, _<_}
+use mathlib.Core.List.{List}
+use Prim.Native.Nat.{ℕ, _+_, _*_, _≤_}
 use native.Mathlib.Omega.{arith}
 use lib.Dec.{leb, eqb}
 use lib.ListN.{length}
@@ -11,7 +11,7 @@ use borrow.Author.Tests.{leb-true, le-leb, eqb-true, eq-eqb, not-true, not-false
 use Rattle.lists.specs.Splice.{splice}
 use Rattle.lists.proofs.Runs.{splice-splice}
 use Rattle.lists.proofs.Tests.{and-left, and-right, contra}
-use Rattle.wire.specs.Bytes.{be, wordBytes}
+use Rattle.wire.specs.Bytes.{wordBytes}
 use Rattle.wire.proofs.Lengths.{word-bytes-length}
 use Rattle.rules.specs.Regions.{startOf}
 use Rattle.rules.specs.Slots.{packetHeader, packetBytes}
@@ -34,15 +34,6 @@ pub slot-packet : (s : State) (tick : ℕ) (d : ActiveDump) (ws : List ℕ)
     ws
 unfolding packetBytes dumpPacketBytes
 slot-packet s tick d ws = refl
-
--- the bytes of a word are those of its two halfwords
-pub two-halves : (x y : ℕ) → y < 65536 → (more : List ℕ) → be 4 (x * 65536 + y) ++ more ≡ be 2 x ++ be 2 y ++ more
-two-halves x y h more =
-    let low : (x * 65536 + y) % 256 ≡ y % 256 = omega arith in
-    let up : (x * 65536 + y) / 256 ≡ x * 256 + y / 256 = omega arith in
-    let up-low : (x * 256 + y / 256) % 256 ≡ y / 256 % 256 = omega arith in
-    let top : (x * 256 + y / 256) / 256 ≡ x = omega arith in
-    rw (low, up, up-low, top)
 
 -- the header, and then the words right after it
 pub head-then-words : (f : DumpPacket) (ws l b b′ head : List ℕ) → PacketFits f ws l → wordBytes head ≡ headBytes f (f .words)

@@ -1,51 +1,18 @@
 // The bulk work: a dump packet written into a buffer, a load written into the image, and words cut out of it.
 ghost use mathlib.Core.Path.{_≡_};
 ghost use mathlib.Core.Bool.{true, false};
-ghost use mathlib.Core.List.{[], reverse};
-ghost use Prim.Native.Nat.{_+_, _*_, _≤_, _<_, min};
+ghost use mathlib.Core.List.{[]};
+ghost use Prim.Native.Nat.{_+_, _≤_, _<_, min};
 ghost use lib.ListN.{length, take, drop};
 ghost use Rattle.lists.specs.Splice.{splice};
-ghost use Rattle.wire.specs.Bytes.{be, beAt, wordBytes};
+ghost use Rattle.wire.specs.Bytes.{beAt, wordBytes};
 ghost use Rattle.rules.specs.Packets.{dataWords};
 ghost use Rattle.bulk.specs.DumpBytes.{headBytes, dumpPacketBytes, PacketFits, packetFits};
 use rules::DumpPacket;
 use rules::WordIndex;
 use wire::get32;
+use wire::put_words;
 use wire::wide32;
-
-// The bytes of a word in the other order.
-fn swapped(x: u32) -> u32
-    ensures { λ r. ⌜ reverse (be 4 r) ≡ be 4 x ⌝ }
-{
-    x % 256 * 16777216
-        + x / 256 % 256 * 65536
-        + x / 256 / 256 % 256 * 256
-        + x / 256 / 256 / 256 % 256
-}
-
-// One word. It is turned round first and then stored lowest byte first: of that the compiler makes one swap and one store.
-fn put_word(buffer: &mut [u8], at: usize, x: u32)
-    requires { ⌜ at + 4 ≤ length (now buffer) ⌝ }
-    ensures { λ _. ⌜ now (buffer .exit) ≡ splice (now (buffer .entry)) at (be 4 x) ⌝ }
-{
-    let s = swapped(x);
-    buffer[at] = (s % 256) as u8;
-    buffer[at + 1] = (s / 256 % 256) as u8;
-    buffer[at + 2] = (s / 256 / 256 % 256) as u8;
-    buffer[at + 3] = (s / 256 / 256 / 256 % 256) as u8;
-}
-
-// The words from index `at` on.
-fn put_words(buffer: &mut [u8], at: usize, words: &[u32])
-    requires { ⌜ at + 4 * length (now words) ≤ length (now buffer) ⌝ }
-    ensures { λ _. ⌜ now (buffer .exit) ≡ splice (now (buffer .entry)) at (wordBytes (now (words .entry))) ⌝ }
-{
-    let mut i = 0;
-    while i < words.len() {
-        put_word(buffer, at + 4 * i, words[i]);
-        i += 1;
-    }
-}
 
 // The header of a dump packet, as seven words.
 fn head_words(f: DumpPacket) -> [u32; 7]
@@ -119,16 +86,15 @@ fn has_words(length: usize, at: WordIndex, n: usize) -> bool
     n <= length - from
 }
 
-// The first n words of a load packet's data, from index `at` of the image on.
-fn store_run(image: &mut [u32], at: WordIndex, packet: &[u8], n: usize)
-    requires { ⌜ (n ≤ 11) × (at .0 + n ≤ length (now image)) ⌝ }
-    ensures { λ _. ⌜ now (image .exit) ≡ splice (now (image .entry)) (at .0) (take n (dataWords (now (packet .entry)))) ⌝ }
+// The first n words of a load packet's data, from index `from` of a slice of words on.
+fn store_run(words: &mut [u32], from: usize, packet: &[u8], n: usize)
+    requires { ⌜ (n ≤ 11) × (from + n ≤ length (now words)) ⌝ }
+    ensures { λ _. ⌜ now (words .exit) ≡ splice (now (words .entry)) from (take n (dataWords (now (packet .entry)))) ⌝ }
 {
-    let from = at.0;
     let mut i = 0;
     while i < n {
         let w = word_at(packet, 16 + 4 * i);
-        image[from + i] = w;
+        words[from + i] = w;
         i += 1;
     }
 }
@@ -145,7 +111,17 @@ pub fn store_words(image: &mut [u32], at: WordIndex, packet: &[u8], n: usize)
     if !has_words(image.len(), at, n) {
         return;
     }
-    store_run(image, at, packet, n);
+    let from = at.0;
+    store_run(image, from, packet, n);
+}
+
+// The same at the start of a slice of words.
+pub fn load_words(words: &mut [u32], packet: &[u8], n: usize)
+    ensures { λ _. ⌜
+        (n ≤ 11 → n ≤ length (now (words .entry)) → now (words .exit) ≡ splice (now (words .entry)) 0 (take n (dataWords (now (packet .entry)))))
+        × ((n ≤ 11 → n ≤ length (now (words .entry)) → ⊥) → now (words .exit) ≡ now (words .entry)) ⌝ }
+{
+    store_words(words, WordIndex(0), packet, n);
 }
 
 // The word n words on. Where there is none, the last index: no image has a word there.

@@ -14,9 +14,9 @@ use Rattle.rules.specs.Slots.{anyBusy, slotRows, nextPlace, nextWords, packetBy
 use Rattle.rules.specs.Ground.{headerRules, writerRows, writeCommand, readerRows, readCommand, cutRules, packetRows, readPacket}
 use Rattle.block.specs.Runs.{runs}
 use Rattle.block.specs.Blocks.{blockOf, stateOf, regionsBounds, placeBounds, isBlock, isTable}
-use Rattle.unpack.specs.Unpacking.{tableOf}
+use Rattle.block.specs.Calls.{tableOf}
 use Rattle.ground_blocks.specs.Fields.{commandIn}
-use Rattle.capi.specs.Calls.{lgStartUp, onState}
+use Rattle.block.specs.Calls.{lgStartUp, onState}
 use Rattle.capi.specs.Commands.{lgWriteCommand, lgReadCommand, lgReadPacket}
 use Rattle.c_theorems.specs.Examples.{Examples}
 

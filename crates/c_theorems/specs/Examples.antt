@@ -4,7 +4,7 @@ use mathlib.Core.Path.{_≡_}
 use mathlib.Core.List.{List, [], _∷_, _++_, map}
 use Prim.Native.Nat.{ℕ}
 use lib.ListN.{set, take, drop, replicate}
-use Rattle.capi.specs.Calls.{CallLeft, lgStartUp, lgSlot, lgCommand}
+use Rattle.block.specs.Calls.{CallLeft, lgStartUp, lgSlot, lgCommand}
 use Rattle.capi.specs.Commands.{lgWriteCommand, lgReadCommand, lgReadPacket}
 
 -- unit 2, three regions: at 1000 hex 4 words with load right, at 2000 hex 6 with dump right, at 3000 hex 1,020 with both; pool 0 is the second

@@ -2,14 +2,14 @@
 -- Assumes nothing.
 use mathlib.Core.Path.{_≡_, refl, sym, ap, _∙_}
 use mathlib.Core.Logic.{_≢_}
-use mathlib.Core.List.{List, _++_}
+use mathlib.Core.List.{List, [], _++_, append-nil}
 use Prim.Native.Nat.{ℕ, _+_, _*_, _≤_}
 use native.Mathlib.Omega.{arith}
-use lib.ListN.{length, length-drop, length-append}
+use lib.ListN.{length, take, drop, length-take, length-drop, drop-of-length-le}
+use borrow.Rule.Slice.PartMut.{putMid}
 use borrow.Author.Tests.{eq-eqb, ne-eqb}
 use Rattle.lists.specs.Splice.{splice}
-use Rattle.lists.proofs.Runs.{splice-splice}
-use Rattle.lists.proofs.Splice.{splice-length}
+use Rattle.lists.proofs.Splice.{splice-length, splice-front}
 use Rattle.wire.proofs.Words.{words-at-length}
 use Rattle.rules.specs.Ground.{readerRows, packetRows, wordsBeside, fieldsRead, concludeRead, readCommand, concludePacket, readPacket, packetFields, packetNumber}
 use Rattle.rules.specs.Packets.{decode}
@@ -23,13 +23,15 @@ use Rattle.rules.specs.declared.Decoded.the-variants.{Unknown, Known}
 use Rattle.rules.specs.declared.DumpPacket.{DumpPacket}
 use Rattle.rules.specs.declared.PacketReading.{PacketReading}
 use Rattle.rules.specs.declared.PacketReading.the-variants.{NoPacket, Packet}
+use Rattle.rules.specs.declared.Reading.{Reading}
 use Rattle.rules.specs.declared.Reading.the-variants.{Unread, Read}
 use Rattle.rules.specs.declared.Refusal.{Refusal}
 use Rattle.rules.specs.declared.Telecommand.{Telecommand}
 use Rattle.rules.specs.declared.Verdict.{Verdict}
 use Rattle.rules.specs.declared.Verdict.the-variants.{Accepted, Rejected}
 use Rattle.rules.proofs.PacketTests.{packet-out, packet-in}
-use Rattle.pack.proofs.Writing.{splice-all}
+use Rattle.block.proofs.Runs.{splice-all}
+use Rattle.command_reader.proofs.Steps.{read-result}
 use Rattle.ground_blocks.specs.Fields.{bodyWords, headWords, fieldWords}
 use Rattle.capi.specs.Commands.{lgReadCommand, lgReadPacket}
 
@@ -49,45 +51,37 @@ module _ (p : List ℕ) where
   beside-length (Load q) = words-at-length 11 p 16
   beside-length (PoolStatistics i) = refl
 
-  fields-length : (d : Decoded) → length (fieldsRead p d .words) ≡ 11
-  fields-length Unknown = refl
-  fields-length (Known k) = beside-length k
-
-  conclude-length : (v : Verdict) → length (concludeRead p v .words) ≡ 11
-  conclude-length (Rejected r) = refl
-  conclude-length Accepted = fields-length (decode p)
-
-  words-length : length (readCommand p .words) ≡ 11
-  unfolding readCommand
-  words-length = conclude-length (lowest (readerRows p))
-
 module _ (p b : List ℕ) where
   pub command-other : length b ≢ 18 → (3 ≡ lgReadCommand p b .number) × (b ≡ lgReadCommand p b .block)
   unfolding lgReadCommand
   command-other n = rw (ne-eqb (length b) 18 n) (refl, refl)
 
-  module _ (n : length b ≡ 18) (d : CommandRead) (ed : d ≡ readCommand p) where
-    pub command-unread : (r : Refusal) → d .reading ≡ Unread r → (m : ℕ) → m ≡ number r → (m ≡ lgReadCommand p b .number) × (b ≡ lgReadCommand p b .block)
+  module _ (n : length b ≡ 18) (d : Reading) (ed : d ≡ readCommand p .reading) where
+    pub command-unread : (r : Refusal) → d ≡ Unread r → (m : ℕ) → m ≡ number r → (m ≡ lgReadCommand p b .number) × (b ≡ lgReadCommand p b .block)
     unfolding lgReadCommand
     command-unread r er m em = rw (eq-eqb (length b) 18 n, ← ed, er) (em, refl)
 
-    pub command-done : (f : Telecommand) → d .reading ≡ Read f → (h : List ℕ) → h ≡ headWords f
+    -- the words beside the fields
+    words-beside : (f : Telecommand) → d ≡ Read f → readCommand p .words ≡ wordsBeside p (f .command)
+    words-beside f ef = sym (ap (λ (r : CommandRead). r .words) (read-result p d (wordsBeside p (f .command)) ed (rw ef)))
+
+    pub command-done : (f : Telecommand) → d ≡ Read f → (h : List ℕ) → h ≡ headWords f
         → (b₁ : List ℕ) → (0 + length h ≤ length b → b₁ ≡ splice b 0 h)
-        → (b₂ : List ℕ) → (7 + length (d .words) ≤ length b₁ → b₂ ≡ splice b₁ 7 (d .words))
-        → (0 ≡ lgReadCommand p b .number) × (b₂ ≡ lgReadCommand p b .block)
+        → (part : List ℕ) → (11 ≤ length (take 11 (drop 7 b₁)) → part ≡ splice (take 11 (drop 7 b₁)) 0 (wordsBeside p (f .command)))
+        → (0 ≡ lgReadCommand p b .number) × (putMid 7 11 b₁ part ≡ lgReadCommand p b .block)
     unfolding lgReadCommand
-    command-done f ef h eh b₁ e₁ b₂ e₂ =
+    command-done f ef h eh b₁ e₁ part e₂ =
         let k = body-length (f .command) in
         let seven : length h ≡ 7 = rw eh (omega arith) in
-        let eleven : length (d .words) ≡ 11 = rw ed (words-length p) in
         let one = e₁ (omega arith) in
-        let same : length b₁ ≡ length b = ap length one ∙ splice-length b 0 h (omega arith) in
-        let two = e₂ (omega arith) in
-        let all : b₂ ≡ h ++ d .words =
-        two ∙ ap (λ (l : List ℕ). splice l 7 (d .words)) one ∙ splice-splice b h (d .words) 0 7 (omega arith) (omega arith)
-        ∙ splice-all b (h ++ d .words) (simp length-append (omega arith))
-        in
-        rw (eq-eqb (length b) 18 n, ← ed, ef) (refl, all ∙ ap (λ (v : List ℕ). v ++ d .words) eh)
+        let same : length b₁ ≡ 18 = ap length one ∙ splice-length b 0 h (omega arith) ∙ n in
+        let room : length (take 11 (drop 7 b₁)) ≡ 11 = simp (length-take, length-drop) (omega arith) in
+        let eleven = beside-length p (f .command) in
+        let two : part ≡ wordsBeside p (f .command) = e₂ (omega arith) ∙ splice-all (take 11 (drop 7 b₁)) (wordsBeside p (f .command)) (eleven ∙ sym room) in
+        let front : take 7 b₁ ≡ h = ap (take 7) one ∙ rw (← seven) (splice-front b h) in
+        let most : length (drop 7 b₁) ≤ 11 = simp length-drop (omega arith) in
+        let rest : drop 11 (drop 7 b₁) ≡ [] = drop-of-length-le (drop 7 b₁) most in
+        rw (eq-eqb (length b) 18 n, ← ed, ef) (refl, rw (two, front, rest, eh, words-beside f ef, append-nil))
 
 -- THE DUMP PACKET READER
 

@@ -1,11 +1,12 @@
 -- What the steps of the command writer leave.
 -- Assumes nothing.
-use mathlib.Core.Path.{_≡_, refl, _∙_}
+use mathlib.Core.Path.{_≡_, refl, sym, ap, _∙_}
 use mathlib.Core.Logic.{_≢_}
 use mathlib.Core.List.{List}
-use Prim.Native.Nat.{ℕ, _≤_}
+use Prim.Native.Nat.{ℕ, _+_, _%_, _≤_}
 use native.Mathlib.Omega.{arith}
-use lib.ListN.{length}
+use lib.ListN.{length, take, drop, length-drop}
+use lib.Seq.{getD-drop}
 use borrow.Author.Tests.{eq-eqb, ne-eqb}
 use Rattle.rules.specs.Ground.{concludeWrite, writerRows, writeCommand}
 use Rattle.rules.specs.Packets.{packetLength}
@@ -18,6 +19,9 @@ use Rattle.rules.specs.declared.Decoded.the-variants.{Unknown, Known}
 use Rattle.rules.specs.declared.Header.{Header}
 use Rattle.rules.specs.declared.Verdict.{Verdict}
 use Rattle.rules.specs.declared.Verdict.the-variants.{Accepted, Rejected}
+use Rattle.block.specs.Blocks.{word}
+use Rattle.block.specs.Runs.{runs}
+use Rattle.block.proofs.Runs.{list-is}
 use Rattle.ground_blocks.specs.Fields.{headerIn, commandIn, dataIn}
 use Rattle.capi.specs.Commands.{lgWriteCommand}
 
@@ -37,7 +41,7 @@ module _ (h : Header) (k : Command) (ws buffer : List ℕ) where
   unfolding writeCommand
   written-most = conclude-most (lowest (writerRows h k buffer))
 
-  pub answer-most : (a : Answer) → a ≡ writeCommand h k ws buffer .answer → answerLength a ≤ 60
+  answer-most : (a : Answer) → a ≡ writeCommand h k ws buffer .answer → answerLength a ≤ 60
   answer-most a e = rw e written-most
 
 module _ (b buffer : List ℕ) where
@@ -50,10 +54,19 @@ module _ (b buffer : List ℕ) where
     unfolding lgWriteCommand
     write-unknown e = rw (eq-eqb (length b) 18 n, ← ed, e) (refl, refl, refl)
 
-    pub write-done : (k : Command) → d ≡ Known k → (h : Header) → h ≡ headerIn b → (ws : List ℕ) → ws ≡ dataIn b
-        → (a : Answer) (v : List ℕ) → (a ≡ writeCommand h k ws buffer .answer) × (v ≡ writeCommand h k ws buffer .buffer)
-        → (x : ℕ) → x ≡ answerLength a → (m : ℕ) → m ≡ answerNumber a
+    -- words 7 to 17 of the block are the data words
+    data-is : take 11 (drop 7 b) ≡ dataIn b
+    unfolding runs
+    data-is =
+        let l : 11 ≤ length (drop 7 b) = simp length-drop (omega arith) in
+        sym (list-is 0 (λ (k : ℕ). word b (7 + k)) (drop 7 b) 11 l (λ i h. sym (getD-drop 7 b i 0)))
+
+    pub write-done : (k : Command) → d ≡ Known k → (h : Header) → h ≡ headerIn b
+        → (a : Answer) (v : List ℕ) → (a ≡ writeCommand h k (take 11 (drop 7 b)) buffer .answer) × (v ≡ writeCommand h k (take 11 (drop 7 b)) buffer .buffer)
+        → (m x : ℕ) → (m ≡ answerNumber a) × (x ≡ answerLength a % 4294967296)
         → (m ≡ lgWriteCommand b buffer .number) × (v ≡ lgWriteCommand b buffer .buffer) × (x ≡ lgWriteCommand b buffer .bytes)
     unfolding lgWriteCommand
-    write-done k ek h eh ws ew a v e x ex m em =
-        rw (eq-eqb (length b) 18 n, ← ed, ek, ← eh, ← ew) (em ∙ rw (e .0), e .1, ex ∙ rw (e .0))
+    write-done k ek h eh a v e m x q =
+        let low = answer-most h k (take 11 (drop 7 b)) buffer a (e .0) in
+        let bytes : answerLength a % 4294967296 ≡ answerLength a = omega arith in
+        rw (eq-eqb (length b) 18 n, ← ed, ek, ← eh, ← data-is) (q .0 ∙ ap answerNumber (e .0), e .1, q .1 ∙ bytes ∙ ap answerLength (e .0))

@@ -1,61 +1,58 @@
--- The steps of the command reader give what the table of its rows gives.
+-- The command reader reads as a box of the packet's own unit does, and its words go with its answer.
 -- Assumes nothing.
 use mathlib.Core.Path.{_≡_, refl, sym, ap, _∙_}
-use mathlib.Core.Logic.{_≢_}
 use mathlib.Core.Bool.{true, false}
 use mathlib.Core.List.{List}
 use Prim.Native.Nat.{ℕ}
 use lib.Dec.{eqb}
-use lib.ListN.{length}
-use borrow.Author.Tests.{eqb-true, eqb-false, eq-eqb, ne-eqb}
+use borrow.Author.Tests.{eq-eqb}
 use Rattle.lists.proofs.Tests.{either}
-use Rattle.wire.specs.Bytes.{beAt}
+use Rattle.lists.specs.Splice.{splice}
+use Rattle.wire.specs.Bytes.{wordsAt}
 use Rattle.rules.specs.Results.{lowest}
-use Rattle.rules.specs.Packets.{apidOf, wellFormed, functionCodeOf, requestOf, decode, packetLength, fieldRules}
-use Rattle.rules.specs.Ground.{readerRows, fieldsRead, concludeRead, readCommand}
-use Rattle.rules.proofs.Allowed.{decode-dump, decode-cancel, decode-load, decode-pool, decode-other}
+use Rattle.rules.specs.Packets.{apidOf, commandApid, wellFormed, commandUnit, decode}
+use Rattle.rules.specs.Commands.{isUnknown, wrongLength, wrongField}
+use Rattle.rules.specs.Ground.{noWords, wordsBeside, readerRows, fieldsRead, concludeRead, readCommand}
 use Rattle.rules.specs.declared.Command.{Command}
 use Rattle.rules.specs.declared.Command.the-variants.{Dump, Cancel, Load, PoolStatistics}
 use Rattle.rules.specs.declared.Decoded.{Decoded}
 use Rattle.rules.specs.declared.Decoded.the-variants.{Unknown, Known}
 use Rattle.rules.specs.declared.Reading.{Reading}
-use Rattle.rules.specs.declared.Reading.the-variants.{Unread}
-use Rattle.rules.specs.declared.Refusal.the-variants.{Malformed, OtherApid, UnknownCode}
+use Rattle.rules.specs.declared.Reading.the-variants.{Read}
+use Rattle.rules.specs.declared.Telecommand.{Telecommand}
 use Rattle.rules.specs.declared.Verdict.{Verdict}
 use Rattle.rules.specs.declared.Verdict.the-variants.{Accepted, Rejected}
-use Rattle.command_reader.specs.ByCode.{checkedAs, readAs, wordsWith}
+use Rattle.packet.specs.Frame.{frameRows, fieldsOf, concludeFrame, frameOf}
+use Rattle.command_reader.specs.Beside.{wordsWith}
 
 module _ (p : List ℕ) where
-  pub malformed : wellFormed p ≡ false → Unread Malformed ≡ readCommand p .reading
-  unfolding readCommand readerRows lowest
-  malformed w = rw w
+  -- number 8 is never given
+  own-unit : lowest (frameRows p (commandUnit p)) ≡ lowest (readerRows p)
+  unfolding frameRows readerRows lowest
+  own-unit = rw (eq-eqb (commandUnit p) (commandUnit p) refl)
 
-  pub other-apid : wellFormed p ≡ true → apidOf p ≢ 1604 → Unread OtherApid ≡ readCommand p .reading
-  unfolding readCommand readerRows lowest
-  other-apid w a = rw (w, ne-eqb (apidOf p) 1604 a)
+  fields-same : (d : Decoded) → fieldsOf p d ≡ fieldsRead p d .reading
+  fields-same Unknown = refl
+  fields-same (Known k) = refl
 
-module _ (p : List ℕ) (w : wellFormed p ≡ true) (a : apidOf p ≡ 1604) where
-  unknown : decode p ≡ Unknown → Unread UnknownCode ≡ readCommand p .reading
-  unfolding readCommand readerRows lowest
-  unknown e = rw (w, eq-eqb (apidOf p) 1604 a, e)
+  concluded-same : (v : Verdict) → concludeFrame p v ≡ concludeRead p v .reading
+  concluded-same (Rejected r) = refl
+  concluded-same Accepted = fields-same (decode p)
 
-  known : (k : Command) → decode p ≡ Known k → checkedAs p k (packetLength k) ≡ readCommand p .reading
-  unfolding readCommand readerRows lowest
-  known k e =
-      rw (w, eq-eqb (apidOf p) 1604 a, e)
-      (either (eqb (length p) (packetLength k))
-      (λ l. either (fieldRules k) (λ f. rw (l, f, e)) (λ f. rw (l, f)))
-      (λ l. rw l))
+  pub read-by-own-unit : frameOf p (commandUnit p) ≡ readCommand p .reading
+  unfolding frameOf readCommand
+  read-by-own-unit = concluded-same (lowest (frameRows p (commandUnit p))) ∙ ap (λ (v : Verdict). concludeRead p v .reading) own-unit
 
-  -- the function code picks what the packet reads as
-  pub by-function-code : readAs p (functionCodeOf p) ≡ readCommand p .reading
-  unfolding readAs
-  by-function-code =
-      either (eqb (functionCodeOf p) 0) (λ e. rw e (known (Dump (requestOf p)) (decode-dump p (eqb-true _ _ e))))
-      (λ e₀. rw e₀ (either (eqb (functionCodeOf p) 1) (λ e. rw e (known Cancel (decode-cancel p (eqb-true _ _ e))))
-      (λ e₁. rw e₁ (either (eqb (functionCodeOf p) 4) (λ e. rw e (known (Load (requestOf p)) (decode-load p (eqb-true _ _ e))))
-      (λ e₄. rw e₄ (either (eqb (functionCodeOf p) 7) (λ e. rw e (known (PoolStatistics (beAt 2 p 10)) (decode-pool p (eqb-true _ _ e))))
-      (λ e₇. rw e₇ (unknown (decode-other p (eqb-false _ _ e₀) (eqb-false _ _ e₁) (eqb-false _ _ e₄) (eqb-false _ _ e₇))))))))))
+-- eleven words written over eleven zeros
+beside-whole : (p : List ℕ) (k : Command) → splice noWords 0 (wordsBeside p k) ≡ wordsBeside p k
+unfolding splice wordsAt
+beside-whole p (Dump q) = refl
+beside-whole p Cancel = refl
+beside-whole p (Load q) = refl
+beside-whole p (PoolStatistics i) = refl
+
+pub with-fields : (p : List ℕ) (r : Reading) (f : Telecommand) (m : List ℕ) → r ≡ Read f → m ≡ splice noWords 0 (wordsBeside p (f .command)) → m ≡ wordsWith p r
+with-fields p r f m e g = g ∙ beside-whole p (f .command) ∙ ap (wordsWith p) (sym e)
 
 -- the words beside an answer
 words-of : (p : List ℕ) (v : Verdict) → lowest (readerRows p) ≡ v → wordsWith p (concludeRead p v .reading) ≡ concludeRead p v .words

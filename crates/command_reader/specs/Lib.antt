@@ -1,1 +1,1 @@
-pub mod ByCode
+pub mod Beside

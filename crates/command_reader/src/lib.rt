@@ -1,94 +1,64 @@
 // The command reader: 4, 5, 6, 7, 9 or the fields, for any bytes of any length.
 ghost use mathlib.Core.Path.{_≡_};
-ghost use Rattle.rules.specs.Packets.{dataWords};
-ghost use Rattle.rules.specs.Ground.{wordsBeside, readCommand};
-ghost use Rattle.command_reader.specs.ByCode.{checkedAs, readAs, wordsWith};
-use packet::field_rules;
-use packet::header_at;
-use packet::request_of;
-use packet::well_formed;
+ghost use Prim.Native.Nat.{_≤_, _<_};
+ghost use lib.ListN.{length};
+ghost use Rattle.lists.specs.Splice.{splice};
+ghost use Rattle.rules.specs.Ground.{noWords, wordsBeside, readCommand};
+ghost use Rattle.command_reader.specs.Beside.{wordsWith};
+use bulk::load_words;
+use packet::frame;
+use packet::unit_of;
 use rules::Command;
 use rules::CommandRead;
 use rules::Reading;
-use rules::Refusal;
-use rules::Telecommand;
-use wire::byte_at;
-use wire::get16;
-use wire::get32;
 
-// A command whose packet must have `length` bytes.
-fn checked(p: &[u8], k: Command, length: usize) -> Reading
-    ensures { λ r. ⌜ r ≡ checkedAs (now (p .entry)) k length ⌝ }
-{
-    if p.len() != length {
-        return Reading::Unread(Refusal::PacketLength);
-    }
-    if !field_rules(k) {
-        return Reading::Unread(Refusal::BadField);
-    }
-    let header = header_at(p, 8);
-    Reading::Read(Telecommand { header, command: k })
-}
-
-// The function code picks the command and its packet's length.
-fn by_code(p: &[u8], code: u8) -> Reading
-    ensures { λ r. ⌜ r ≡ readAs (now (p .entry)) code ⌝ }
-{
-    match code {
-        0 => checked(p, Command::Dump(request_of(p)), 16),
-        1 => checked(p, Command::Cancel, 10),
-        4 => checked(p, Command::Load(request_of(p)), 60),
-        7 => checked(p, Command::PoolStatistics(get16(p, 10)), 12),
-        _ => Reading::Unread(Refusal::UnknownCode),
-    }
-}
-
-fn reading_of(p: &[u8]) -> Reading
+// Numbers 4 to 7 and 9, or the fields: what a box of the packet's own unit reads.
+pub fn reading_of(p: &[u8]) -> Reading
     ensures { λ r. ⌜ r ≡ readCommand (now (p .entry)) .reading ⌝ }
 {
-    if !well_formed(p) {
-        return Reading::Unread(Refusal::Malformed);
-    }
-    if get16(p, 0) % 2048 != 1604 {
-        return Reading::Unread(Refusal::OtherApid);
-    }
-    by_code(p, byte_at(p, 6) % 128)
+    frame(p, unit_of(p))
 }
 
-// The eleven data words of a load.
-pub fn data_words(p: &[u8]) -> [u32; 11]
-    ensures { λ r. ⌜ r ≡ dataWords (now (p .entry)) ⌝ }
+fn put_zeros(words: &mut [u32])
+    requires { ⌜ 11 ≤ length (now words) ⌝ }
+    ensures { λ _. ⌜ now (words .exit) ≡ splice (now (words .entry)) 0 noWords ⌝ }
 {
-    let mut words = [0u32; 11];
-    let mut i: u16 = 0;
+    let mut i = 0;
     while i < 11 {
-        words[i as usize] = get32(p, 16 + 4 * i);
+        words[i] = 0;
         i += 1;
     }
-    words
 }
 
-fn words_beside(p: &[u8], k: Command) -> [u32; 11]
-    ensures { λ r. ⌜ r ≡ wordsBeside (now (p .entry)) k ⌝ }
+// A load's eleven data words, or eleven zeros, at the start of a slice of words. Where it has fewer, nothing is written.
+pub fn put_beside(words: &mut [u32], p: &[u8], k: Command)
+    ensures { λ _. ⌜
+        (11 ≤ length (now (words .entry)) → now (words .exit) ≡ splice (now (words .entry)) 0 (wordsBeside (now (p .entry)) k))
+        × (length (now (words .entry)) < 11 → now (words .exit) ≡ now (words .entry)) ⌝ }
 {
+    if words.len() < 11 {
+        return;
+    }
     match k {
-        Command::Dump(_) => [0; 11],
-        Command::Cancel => [0; 11],
-        Command::Load(_) => data_words(p),
-        Command::PoolStatistics(_) => [0; 11],
+        Command::Dump(_) => put_zeros(words),
+        Command::Cancel => put_zeros(words),
+        Command::Load(_) => load_words(words, p, 11),
+        Command::PoolStatistics(_) => put_zeros(words),
     }
 }
 
 fn words_with(p: &[u8], reading: Reading) -> [u32; 11]
     ensures { λ r. ⌜ r ≡ wordsWith (now (p .entry)) reading ⌝ }
 {
+    let mut words = [0u32; 11];
     match reading {
-        Reading::Unread(_) => [0; 11],
+        Reading::Unread(_) => {}
         Reading::Read(f) => {
             let k = f.command;
-            words_beside(p, k)
+            put_beside(&mut words, p, k);
         }
     }
+    words
 }
 
 // The fields of a command packet, with a load's data words beside them.

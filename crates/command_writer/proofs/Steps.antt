@@ -3,59 +3,104 @@
 use mathlib.Core.Path.{_≡_, refl, sym, ap, ap₂, _∙_}
 use mathlib.Core.Bool.{Bool, true, false, _&&_, not}
 use mathlib.Core.List.{List, [], _∷_, _++_}
-use Prim.Native.Nat.{ℕ, zero, suc, _+_, _*_, _-_, _≤_, _<_}
+use Prim.Native.Nat.{ℕ, zero, suc, _+_, _*_, _-_, _/_, _%_, _≤_, _<_}
 use native.Mathlib.Omega.{arith}
-use lib.Bits.{bitXor}
+use lib.Bits.{bitXor, xor-zero-l}
 use lib.Dec.{leb, ltb}
-use lib.ListN.{length, getD, set, take, replicate}
-use lib.Seq.{sets, getD-take}
+use lib.ListN.{length, getD, set, take}
+use lib.Seq.{set-append-left}
 use borrow.Author.Tests.{leb-true, lt-ltb, le-ltb, not-true, not-false}
 use Rattle.lists.specs.Splice.{splice}
-use Rattle.lists.proofs.Splice.{splice-front}
+use Rattle.lists.proofs.Runs.{sets-splice, splice-splice, splice-before}
 use Rattle.lists.proofs.Tests.{and-left, and-right}
-use Rattle.wire.specs.Bytes.{be}
+use Rattle.wire.specs.Bytes.{be, wordBytes}
 use Rattle.wire.specs.Xor.{xorAll}
-use Rattle.wire.proofs.Stores.{set-splice}
-use Rattle.lists.proofs.Runs.{sets-sets, sets-splice}
-use Rattle.rules.specs.Packets.{codeOf, packetLength, fieldRules, usedWords, bodyBytes, sealed, commandBytes}
+use Rattle.wire.proofs.Lengths.{word-bytes-length}
+use Rattle.wire.proofs.Numbers.{two-halves}
+use Rattle.wire.proofs.Xor.{xor-be, xor-joined}
+use Rattle.rules.specs.Packets.{codeOf, packetLength, fieldRules, usedWords, requestBytes, bodyBytes, sealed, commandBytes}
+use Rattle.rules.proofs.Fits.{used-length}
 use Rattle.rules.specs.Results.{lowest}
 use Rattle.rules.specs.Ground.{headerRules, writerRows, writeCommand}
-use Rattle.rules.proofs.Fits.{body-length}
 use Rattle.rules.specs.declared.Answer.the-variants.{Refused, Done}
 use Rattle.rules.specs.declared.Command.{Command}
 use Rattle.rules.specs.declared.Command.the-variants.{Dump, Cancel, Load, PoolStatistics}
 use Rattle.rules.specs.declared.Header.{Header}
+use Rattle.rules.specs.declared.Request.{Request}
 use Rattle.rules.specs.declared.Refusal.the-variants.{BufferLength, BadField}
 use Rattle.command_writer.specs.Start.{startBytes}
 
--- A LOAD'S WORDS
+-- THE EXCLUSIVE OR AS A WORD
 
-zeros : (n i : ℕ) → _≡_ {A = ℕ} (getD (replicate n 0) i 0) 0
-zeros zero i = refl
-zeros (suc n) zero = refl
-zeros (suc n) (suc i) = zeros n i
+-- a word for some bytes and one for others make one for all of them
+pub both-words : (a b : ℕ) (p q : List ℕ) → xorAll (be 4 a) ≡ xorAll p → xorAll (be 4 b) ≡ xorAll q → xorAll (be 4 (bitXor a b)) ≡ xorAll (p ++ q)
+both-words a b p q e f = xor-be 4 a b ∙ ap₂ (λ (x y : ℕ). bitXor x y) e f ∙ sym (xor-joined p q)
 
-padded-given : (size n : ℕ) (ws : List ℕ) (i : ℕ) → i < size → getD (take size ws ++ replicate n 0) i 0 ≡ getD ws i 0
-padded-given zero n ws i h = absurd (omega arith)
-padded-given (suc size) n [] i h = zeros n i
-padded-given (suc size) n (w ∷ ws) zero h = refl
-padded-given (suc size) n (w ∷ ws) (suc i) h = padded-given size n ws i (omega arith)
+-- a halfword as a word
+pub half-word : (x : ℕ) → x < 65536 → xorAll (be 4 x) ≡ xorAll (be 2 x)
+unfolding xorAll
+half-word x h =
+    let e : x ≡ 0 * 65536 + x = omega arith in
+    ap (λ (y : ℕ). xorAll (be 4 y)) e ∙ ap xorAll (two-halves 0 x h []) ∙ xor-zero-l _ ∙ xor-zero-l _
 
-padded-beyond : (size n : ℕ) (ws : List ℕ) (i : ℕ) → size ≤ i → getD (take size ws ++ replicate n 0) i 0 ≡ 0
-padded-beyond zero n ws i h = zeros n i
-padded-beyond (suc size) n [] i h = zeros n i
-padded-beyond (suc size) n (w ∷ ws) zero h = absurd (omega arith)
-padded-beyond (suc size) n (w ∷ ws) (suc i) h = padded-beyond size n ws i (omega arith)
+-- unit and transaction alone
+pub identity-stores : (l : List ℕ) (id : ℕ) → id < 65536 → 10 ≤ length l → set (set l 8 (id / 256)) 9 (id % 256) ≡ splice l 8 (be 2 id)
+identity-stores l id h long =
+    let e : id / 256 ≡ id / 256 % 256 = omega arith in ap (λ (x : ℕ). set (set l 8 x) 9 (id % 256)) e ∙ sets-splice (be 2 id) l 8 long
 
-module _ (size : ℕ) (ws : List ℕ) (i : ℕ) (l : i < 11) where
-  -- within the size a word is the given one, and beyond it 0
-  pub word-given : i < size → getD ws i 0 ≡ getD (usedWords size ws) i 0
-  word-given h = sym (getD-take 11 (take size ws ++ replicate 11 0) i 0 l ∙ padded-given size 11 ws i h)
+-- a load's words right after its request
+pub load-written : (l b m : List ℕ) (id : ℕ) (q : Request) (ws : List ℕ) (x y : ℕ) → 60 ≤ length l → b ≡ splice l 8 (be 2 id ++ requestBytes q)
+    → m ≡ splice b 16 (wordBytes (usedWords (q .size) ws)) → xorAll (be 4 x) ≡ xorAll (be 2 id ++ requestBytes q)
+    → xorAll (be 4 y) ≡ xorAll (wordBytes (usedWords (q .size) ws))
+    → (m ≡ splice l 8 (be 2 id ++ bodyBytes (Load q) ws)) × (xorAll (be 4 (bitXor x y)) ≡ xorAll (be 2 id ++ bodyBytes (Load q) ws))
+load-written l b m id q ws x y long e e′ ex ey =
+    let words = wordBytes (usedWords (q .size) ws) in
+    let n = word-bytes-length (usedWords (q .size) ws) in
+    let u = used-length (q .size) ws in (
+      rw (e′, e) (splice-splice l (be 2 id ++ requestBytes q) words 8 16 refl (omega arith)),
+      both-words x y (be 2 id ++ requestBytes q) words ex ey,
+    )
 
-  pub word-beyond : size ≤ i → 0 ≡ getD (usedWords size ws) i 0
-  word-beyond h = sym (getD-take 11 (take size ws ++ replicate 11 0) i 0 l ∙ padded-beyond size 11 ws i h)
+-- THE START
 
--- THE PACKET
+module _ (count code n : ℕ) (byte : code < 256) (short : count ≤ 16383) where
+  abbrev pub firstWord : ℕ
+  firstWord = 7748 * 65536 + (49152 + count)
+
+  abbrev pub secondWord : ℕ
+  secondWord = (n - 7) * 65536 + code * 256
+
+  -- the two words with a check byte
+  start-words : (c : ℕ) → c < 256 → wordBytes (firstWord ∷ (secondWord + c) ∷ []) ≡ set (startBytes count code n) 7 c
+  unfolding wordBytes
+  start-words c h =
+      let e : secondWord + c ≡ (n - 7) * 65536 + (code * 256 + c) = omega arith in
+      let up : (code * 256 + c) / 256 % 256 ≡ code = omega arith in
+      let low : (code * 256 + c) % 256 ≡ c = omega arith in
+      rw (two-halves 7748 (49152 + count) (omega arith), e, two-halves (n - 7) (code * 256 + c) (omega arith), up, low)
+
+  -- their exclusive or, the check byte still 0
+  start-xor : xorAll (be 4 (bitXor firstWord secondWord)) ≡ xorAll (startBytes count code n)
+  unfolding wordBytes
+  start-xor =
+      let e : secondWord ≡ secondWord + 0 = omega arith in
+      both-words firstWord secondWord (be 4 firstWord) (be 4 secondWord) refl refl
+      ∙ ap (λ (x : ℕ). xorAll (be 4 firstWord ++ be 4 x)) e
+      ∙ ap xorAll (start-words 0 (omega arith))
+
+  -- the start from what the functions that were called gave
+  pub start-written : (w x c rest : ℕ) → w ≡ code → x ≡ xorAll (be 4 (bitXor (bitXor firstWord ((n - 7) * 65536 + w * 256)) rest)) → c ≡ bitXor x 255
+      → c < 256 → (l m : List ℕ) → m ≡ splice l 0 (wordBytes (firstWord ∷ ((n - 7) * 65536 + w * 256 + c) ∷ []))
+      → m ≡ splice l 0 (set (startBytes count code n) 7 (bitXor (bitXor (xorAll (startBytes count code n)) (xorAll (be 4 rest))) 255))
+  start-written w x c rest ew ex ec h l m e =
+      let x′ : x ≡ bitXor (xorAll (startBytes count code n)) (xorAll (be 4 rest)) =
+      ex ∙ ap (λ (y : ℕ). xorAll (be 4 (bitXor (bitXor firstWord ((n - 7) * 65536 + y * 256)) rest))) ew
+      ∙ xor-be 4 (bitXor firstWord secondWord) rest
+      ∙ ap (λ (y : ℕ). bitXor y (xorAll (be 4 rest))) start-xor
+      in
+      e ∙ ap (λ (y : ℕ). splice l 0 (wordBytes (firstWord ∷ ((n - 7) * 65536 + y * 256 + c) ∷ []))) ew
+      ∙ ap (splice l 0) (start-words c h)
+      ∙ ap (λ (y : ℕ). splice l 0 (set (startBytes count code n) 7 y)) (ec ∙ ap (λ (y : ℕ). bitXor y 255) x′)
 
 pub record HeaderFits (h : Header) : Type 0 where
   pub unit : h .unit ≤ 15
@@ -75,31 +120,15 @@ header-fits h e =
       count = leb-true _ _ (and-right (u && t) c e);
     }
 
--- the stores of a packet's start, one after another
-pub start-stores : (h : Header) (code n unit : ℕ) → unit ≡ h .unit → (b b₁ b₂ b₃ b₄ b₅ b₆ : List ℕ)
-    → b₁ ≡ sets b 0 (be 2 7748) → b₂ ≡ sets b₁ 2 (be 2 (49152 + h .count)) → b₃ ≡ sets b₂ 4 (be 2 (n - 7))
-    → b₄ ≡ set b₃ 6 code → b₅ ≡ set b₄ 7 0 → b₆ ≡ sets b₅ 8 (be 2 (4096 * unit + h .transaction))
-    → b₆ ≡ sets b 0 (startBytes h code n)
-start-stores h code n unit eu b b₁ b₂ b₃ b₄ b₅ b₆ e₁ e₂ e₃ e₄ e₅ e₆ =
-    let s₂ = e₂ ∙ ap (λ (x : List ℕ). sets x 2 (be 2 (49152 + h .count))) e₁ in
-    let s₃ = e₃ ∙ ap (λ (x : List ℕ). sets x 4 (be 2 (n - 7))) s₂ in
-    let s₄ = e₄ ∙ ap (λ (x : List ℕ). set x 6 code) s₃ in
-    let s₅ = e₅ ∙ ap (λ (x : List ℕ). set x 7 0) s₄ in
-    e₆ ∙ ap₂ (λ (x : List ℕ) (u : ℕ). sets x 8 (be 2 (4096 * u + h .transaction))) s₅ eu
-
--- the check byte put into a packet that stands at the start of a buffer
-seal-front : (b p : List ℕ) (n : ℕ) → length p ≡ n → 7 < n → set (splice b 0 p) 7 (bitXor (xorAll (take n (splice b 0 p))) 255) ≡ splice b 0 (sealed p)
-unfolding sealed
-seal-front b p n e h =
-    let f : take n (splice b 0 p) ≡ p = rw (← e) (splice-front b p) in
-    let s : 7 < length p = omega arith in
-    rw f (set-splice p b 7 (bitXor (xorAll p) 255) s)
-
 length-bounds : (k : Command) → (10 ≤ packetLength k) × (packetLength k ≤ 60)
 length-bounds (Dump q) = (omega arith, omega arith)
 length-bounds Cancel = (omega arith, omega arith)
 length-bounds (Load q) = (omega arith, omega arith)
 length-bounds (PoolStatistics i) = (omega arith, omega arith)
+
+-- unit and transaction fit a halfword
+pub rest-fits : (h : Header) (k : Command) → (headerRules h && fieldRules k) ≡ true → (u : ℕ) → u ≡ h .unit → 4096 * u + h .transaction < 65536
+rest-fits h k r u e = let f = header-fits h (and-left (headerRules h) (fieldRules k) r) in omega arith
 
 -- THE TESTS AND THE WRITES, from what the functions that were called gave
 
@@ -114,8 +143,11 @@ module _ (h : Header) (k : Command) (a b : Bool) (ea : a ≡ headerRules h) (eb 
   rules-hold r = sym both ∙ not-false (a && b) r
 
 module _ (h : Header) (k : Command) (n : ℕ) (en : n ≡ packetLength k) where
-  pub start-fits : (headerRules h && fieldRules k) ≡ true → (headerRules h ≡ true) × (7 ≤ n) × (n ≤ 60)
-  start-fits r = let l = length-bounds k in (and-left (headerRules h) (fieldRules k) r, omega arith, omega arith)
+  pub start-fits : (headerRules h && fieldRules k) ≡ true → (h .count ≤ 16383) × (7 ≤ n) × (n ≤ 60) × (10 ≤ n)
+  start-fits r =
+      let l = length-bounds k in
+      let f = header-fits h (and-left (headerRules h) (fieldRules k) r) in
+      (f .count, omega arith, omega arith, omega arith)
 
   module _ (ws buffer : List ℕ) where
     pub too-short : length buffer < n → (Refused BufferLength ≡ writeCommand h k ws buffer .answer) × (buffer ≡ writeCommand h k ws buffer .buffer)
@@ -131,28 +163,27 @@ module _ (h : Header) (k : Command) (n : ℕ) (en : n ≡ packetLength k) where
       unfolding writeCommand writerRows lowest
       bad-field r = (rw (long-enough, r), rw (long-enough, r))
 
-      -- what the three writes leave: the packet, and the later bytes as they were
-      packet-stands : (code : ℕ) → code ≡ codeOf k → (b₁ b₂ : List ℕ) → b₁ ≡ sets buffer 0 (startBytes h code n) → b₂ ≡ sets b₁ 10 (bodyBytes k ws)
-          → set b₂ 7 (bitXor (xorAll (take n b₂)) 255) ≡ splice buffer 0 (commandBytes h k ws)
-      unfolding commandBytes
-      packet-stands code ec b₁ b₂ e₁ e₂ =
-          let p = startBytes h code n ++ bodyBytes k ws in
-          let l = length-bounds k in
-          let size : length p ≡ n = omega (arith, body-length k ws) in
-          let front : b₂ ≡ splice buffer 0 p =
-          e₂ ∙ ap (λ (x : List ℕ). sets x 10 (bodyBytes k ws)) e₁
-          ∙ sets-sets (startBytes h code n) (bodyBytes k ws) buffer 0
-          ∙ sets-splice p buffer 0 (omega arith)
-          in
-          ap (λ (x : List ℕ). set x 7 (bitXor (xorAll (take n x)) 255)) front
-          ∙ seal-front buffer p n size (omega arith)
-          ∙ ap₂ (λ (x y : ℕ). splice buffer 0 (sealed (startBytes h x y ++ bodyBytes k ws))) ec en
+      module _ (unit : ℕ) (eu : unit ≡ h .unit) (code rest : ℕ) (ec : code ≡ codeOf k) where
+        abbrev tail : List ℕ
+        tail = be 2 (4096 * unit + h .transaction) ++ bodyBytes k ws
 
-      pub packet-written : (headerRules h && fieldRules k) ≡ true
-          → (code : ℕ) → code ≡ codeOf k
-          → (b₁ b₂ b₃ : List ℕ) → b₁ ≡ sets buffer 0 (startBytes h code n) → b₂ ≡ sets b₁ 10 (bodyBytes k ws)
-          → b₃ ≡ set b₂ 7 (bitXor (xorAll (take n b₂)) 255)
-          → (Done (record { length = n }) ≡ writeCommand h k ws buffer .answer) × (b₃ ≡ writeCommand h k ws buffer .buffer)
-      unfolding writeCommand writerRows lowest
-      packet-written r code ec b₁ b₂ b₃ e₁ e₂ e₃ =
-          (rw (long-enough, r, en), rw (long-enough, r) (e₃ ∙ packet-stands code ec b₁ b₂ e₁ e₂))
+        abbrev start : List ℕ
+        start = startBytes (h .count) code n
+
+        -- what the two writes leave: the packet, and the later bytes as they were
+        packet-stands : (b₁ : List ℕ) → b₁ ≡ splice buffer 8 tail → xorAll (be 4 rest) ≡ xorAll tail
+            → splice b₁ 0 (set start 7 (bitXor (bitXor (xorAll start) (xorAll (be 4 rest))) 255)) ≡ splice buffer 0 (commandBytes h k ws)
+        unfolding commandBytes sealed
+        packet-stands b₁ e₁ er =
+            let l = length-bounds k in
+            let x : bitXor (xorAll start) (xorAll (be 4 rest)) ≡ xorAll (start ++ tail) = ap (bitXor (xorAll start)) er ∙ sym (xor-joined start tail) in
+            ap₂ (λ (b : List ℕ) (c : ℕ). splice b 0 (set start 7 (bitXor c 255))) e₁ x
+            ∙ splice-before buffer (set start 7 (bitXor (xorAll (start ++ tail)) 255)) tail 8 refl (omega arith)
+            ∙ rw (eu, ec, en)
+
+        pub packet-written : (headerRules h && fieldRules k) ≡ true
+            → (b₁ b₂ : List ℕ) → b₁ ≡ splice buffer 8 tail → xorAll (be 4 rest) ≡ xorAll tail
+            → b₂ ≡ splice b₁ 0 (set start 7 (bitXor (bitXor (xorAll start) (xorAll (be 4 rest))) 255))
+            → (Done (record { length = n }) ≡ writeCommand h k ws buffer .answer) × (b₂ ≡ writeCommand h k ws buffer .buffer)
+        unfolding writeCommand writerRows lowest
+        packet-written r b₁ b₂ e₁ er e₂ = (rw (long-enough, r, en), rw (long-enough, r) (e₂ ∙ packet-stands b₁ e₁ er))

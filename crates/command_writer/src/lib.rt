@@ -1,13 +1,13 @@
 // The command writer: 3, 9, or the packet at the start of the buffer. Later bytes stay, and after a refusal all do.
 ghost use mathlib.Core.Path.{_≡_};
-ghost use mathlib.Core.Bool.{true};
+ghost use mathlib.Core.List.{_++_};
 ghost use Prim.Native.Nat.{_≤_, _<_};
 ghost use lib.Bits.{bitXor};
-ghost use lib.ListN.{length, getD, set, take};
-ghost use lib.Seq.{sets};
-ghost use Rattle.wire.specs.Bytes.{wordBytes};
+ghost use lib.ListN.{length, getD, set};
+ghost use Rattle.lists.specs.Splice.{splice};
+ghost use Rattle.wire.specs.Bytes.{be, wordBytes};
 ghost use Rattle.wire.specs.Xor.{xorAll};
-ghost use Rattle.rules.specs.Packets.{codeOf, usedWords, requestBytes, bodyBytes};
+ghost use Rattle.rules.specs.Packets.{codeOf, packetLength, usedWords, requestBytes, bodyBytes};
 ghost use Rattle.rules.specs.Ground.{headerRules, writeCommand};
 ghost use Rattle.command_writer.specs.Start.{startBytes};
 use packet::field_rules;
@@ -18,11 +18,9 @@ use rules::Header;
 use rules::Refusal;
 use rules::Request;
 use rules::Written;
-use wire::put8;
-use wire::put16;
-use wire::put32;
-use wire::wide16;
-use wire::xor_all;
+use wire::put_words;
+use wire::wide32;
+use wire::xor_word;
 
 fn code_of(k: Command) -> u8
     ensures { λ r. ⌜ r ≡ codeOf k ⌝ }
@@ -41,73 +39,103 @@ fn header_rules(h: Header) -> bool
     (h.unit <= 15) & (h.transaction <= 4095) & (h.count <= 16383)
 }
 
-// The bytes before the body in a packet of `n` bytes. The check byte is 0 until `seal`.
-fn put_start(b: &mut [u8], h: Header, code: u8, n: usize)
-    requires { ⌜ (headerRules h ≡ true) × (7 ≤ n) × (n ≤ 60) ⌝ }
-    ensures { λ _. ⌜ now (b .exit) ≡ sets (now (b .entry)) 0 (startBytes h code n) ⌝ }
+// The first two words of a packet of `n` bytes. The check byte makes the exclusive or of all bytes FF hex, where the bytes after these
+// words come to that of `rest`.
+fn put_start(b: &mut [u8], count: u16, code: u8, n: usize, rest: u32)
+    requires { ⌜ (count ≤ 16383) × (7 ≤ n) × (n ≤ 60) × (8 ≤ length (now b)) ⌝ }
+    ensures { λ _. ⌜ now (b .exit) ≡ splice (now (b .entry)) 0 (set (startBytes count code n) 7 (bitXor (bitXor (xorAll (startBytes count code n)) (xorAll (be 4 rest))) 255)) ⌝ }
 {
-    // sequence flags 3
-    let sequence = 49152 + h.count;
-    let identity = 4096 * wide16(h.unit) + h.transaction;
-    // type 1, second-header flag 1, APID 1604
-    put16(b, 0, 7748);
-    put16(b, 2, sequence);
-    put16(b, 4, (n - 7) as u16);
-    put8(b, 6, code);
-    put8(b, 7, 0);
-    put16(b, 8, identity);
+    // type 1, second-header flag 1, APID 1604; sequence flags 3
+    let first = 7748 * 65536 + (49152 + count as u32);
+    let second = (n - 7) as u32 * 65536 + wide32(code) * 256;
+    let check = wide32(xor_word(first ^ second ^ rest) ^ 255);
+    let start = [first, second + check];
+    put_words(b, 0, &start);
 }
 
-fn put_request(b: &mut [u8], q: Request)
-    ensures { λ _. ⌜ now (b .exit) ≡ sets (now (b .entry)) 10 (requestBytes q) ⌝ }
+// Unit and transaction alone.
+fn put_identity(b: &mut [u8], id: u32) -> u32
+    requires { ⌜ (id < 65536) × (10 ≤ length (now b)) ⌝ }
+    ensures { λ r. ⌜ (now (b .exit) ≡ splice (now (b .entry)) 8 (be 2 id)) × (xorAll (be 4 r) ≡ xorAll (be 2 id)) ⌝ }
 {
-    put16(b, 10, q.size);
-    put32(b, 12, q.address.0);
+    b[8] = (id / 256) as u8;
+    b[9] = (id % 256) as u8;
+    id
 }
 
-// A load's word `i` as it is written: a word beyond the size is 0.
-fn used_word(words: &[u32; 11], size: u16, i: u16) -> u32
+fn put_pool(b: &mut [u8], id: u32, pool: u16) -> u32
+    requires { ⌜ (id < 65536) × (12 ≤ length (now b)) ⌝ }
+    ensures { λ r. ⌜ (now (b .exit) ≡ splice (now (b .entry)) 8 (be 2 id ++ be 2 pool)) × (xorAll (be 4 r) ≡ xorAll (be 2 id ++ be 2 pool)) ⌝ }
+{
+    let third = id * 65536 + pool as u32;
+    let run = [third];
+    put_words(b, 8, &run);
+    third
+}
+
+fn put_request(b: &mut [u8], id: u32, q: Request) -> u32
+    requires { ⌜ (id < 65536) × (16 ≤ length (now b)) ⌝ }
+    ensures { λ r. ⌜ (now (b .exit) ≡ splice (now (b .entry)) 8 (be 2 id ++ requestBytes q)) × (xorAll (be 4 r) ≡ xorAll (be 2 id ++ requestBytes q)) ⌝ }
+{
+    let third = id * 65536 + q.size as u32;
+    let address = q.address.0;
+    let run = [third, address];
+    put_words(b, 8, &run);
+    third ^ address
+}
+
+// A load's word `i` as it is written: a word beyond the size is 0, and so is one that was not given.
+fn used_word(words: &[u32], size: u16, i: usize) -> u32
     requires { ⌜ i < 11 ⌝ }
     ensures { λ r. ⌜ r ≡ getD (usedWords size (now (words .entry))) i 0 ⌝ }
 {
-    if i < size { words[i as usize] } else { 0 }
+    if size as usize <= i {
+        return 0;
+    }
+    if words.len() <= i {
+        return 0;
+    }
+    words[i]
 }
 
-fn put_words(b: &mut [u8], size: u16, words: &[u32; 11])
-    ensures { λ _. ⌜ now (b .exit) ≡ sets (now (b .entry)) 16 (wordBytes (usedWords size (now (words .entry)))) ⌝ }
+// A load's eleven words. With the one test here the compiler leaves out those of each word.
+fn put_data(b: &mut [u8], size: u16, words: &[u32]) -> u32
+    requires { ⌜ 60 ≤ length (now b) ⌝ }
+    ensures { λ r. ⌜ (now (b .exit) ≡ splice (now (b .entry)) 16 (wordBytes (usedWords size (now (words .entry))))) × (xorAll (be 4 r) ≡ xorAll (wordBytes (usedWords size (now (words .entry))))) ⌝ }
 {
-    let mut i: u16 = 0;
+    if b.len() < 60 {
+        return 0;
+    }
+    let mut all: u32 = 0;
+    let mut i = 0;
     while i < 11 {
-        put32(b, 16 + 4 * i, used_word(words, size, i));
+        let w = used_word(words, size, i);
+        let run = [w];
+        put_words(b, 16 + 4 * i, &run);
+        all = all ^ w;
         i += 1;
     }
+    all
 }
 
-fn put_body(b: &mut [u8], k: Command, words: &[u32; 11])
-    ensures { λ _. ⌜ now (b .exit) ≡ sets (now (b .entry)) 10 (bodyBytes k (now (words .entry))) ⌝ }
+// The bytes from unit and transaction on. The answer is a word whose bytes have their exclusive or.
+fn put_rest(b: &mut [u8], id: u32, k: Command, words: &[u32]) -> u32
+    requires { ⌜ (id < 65536) × (packetLength k ≤ length (now b)) ⌝ }
+    ensures { λ r. ⌜ (now (b .exit) ≡ splice (now (b .entry)) 8 (be 2 id ++ bodyBytes k (now (words .entry)))) × (xorAll (be 4 r) ≡ xorAll (be 2 id ++ bodyBytes k (now (words .entry)))) ⌝ }
 {
     match k {
-        Command::Dump(q) => put_request(b, q),
-        Command::Cancel => {}
+        Command::Dump(q) => put_request(b, id, q),
+        Command::Cancel => put_identity(b, id),
         Command::Load(q) => {
-            put_request(b, q);
-            put_words(b, q.size, words);
+            let request = put_request(b, id, q);
+            request ^ put_data(b, q.size, words)
         }
-        Command::PoolStatistics(i) => put16(b, 10, i),
+        Command::PoolStatistics(i) => put_pool(b, id, i),
     }
 }
 
-// The check byte, which makes the exclusive or of the first `n` bytes FF hex.
-fn seal(b: &mut [u8], n: usize)
-    requires { ⌜ n ≤ length (now b) ⌝ }
-    ensures { λ _. ⌜ now (b .exit) ≡ set (now (b .entry)) 7 (bitXor (xorAll (take n (now (b .entry)))) 255) ⌝ }
-{
-    let x = xor_all(&b[..n]);
-    put8(b, 7, x ^ 255);
-}
-
-// Writes a command's packet. Of `words`, which are a load's, those beyond its size are not read.
-pub fn write_command(h: Header, k: Command, words: &[u32; 11], buffer: &mut [u8]) -> Answer
+// Writes a command's packet. Of `words`, which are a load's, those beyond its size are not read, and one that is not there is 0.
+pub fn write_packet(h: Header, k: Command, words: &[u32], buffer: &mut [u8]) -> Answer
     ensures { λ r. ⌜ (r ≡ writeCommand h k (now (words .entry)) (now (buffer .entry)) .answer) × (now (buffer .exit) ≡ writeCommand h k (now (words .entry)) (now (buffer .entry)) .buffer) ⌝ }
 {
     let n = packet_length(k);
@@ -117,8 +145,15 @@ pub fn write_command(h: Header, k: Command, words: &[u32; 11], buffer: &mut [u8]
     if !(header_rules(h) & field_rules(k)) {
         return Answer::Refused(Refusal::BadField);
     }
-    put_start(buffer, h, code_of(k), n);
-    put_body(buffer, k, words);
-    seal(buffer, n);
+    let id = 4096 * wide32(h.unit) + h.transaction as u32;
+    let rest = put_rest(buffer, id, k, words);
+    put_start(buffer, h.count, code_of(k), n, rest);
     Answer::Done(Written { length: n })
+}
+
+// The same of eleven words.
+pub fn write_command(h: Header, k: Command, words: &[u32; 11], buffer: &mut [u8]) -> Answer
+    ensures { λ r. ⌜ (r ≡ writeCommand h k (now (words .entry)) (now (buffer .entry)) .answer) × (now (buffer .exit) ≡ writeCommand h k (now (words .entry)) (now (buffer .entry)) .buffer) ⌝ }
+{
+    write_packet(h, k, words, buffer)
 }

@@ -2,7 +2,7 @@
 ghost use mathlib.Core.Path.{_≡_};
 ghost use Prim.Native.Nat.{min};
 ghost use Rattle.rules.specs.Packets.{codeOf};
-ghost use Rattle.ground_blocks.specs.Fields.{headerIn, sizeIn, requestIn, commandIn, dataIn, bodyWords, headWords, fieldWords};
+ghost use Rattle.ground_blocks.specs.Fields.{headerIn, sizeIn, requestIn, commandIn, bodyWords, headWords, fieldWords};
 ghost use Rattle.ground_blocks.specs.RoundTrip.{CommandRoundTrip};
 use block::word_at;
 use rules::Address;
@@ -65,18 +65,6 @@ pub fn command_in(b: &[u32]) -> Decoded
         7 => Decoded::Known(Command::PoolStatistics(at_most_16(word_at(b, 6)))),
         _ => Decoded::Unknown,
     }
-}
-
-pub fn data_in(b: &[u32]) -> [u32; 11]
-    ensures { λ r. ⌜ r ≡ dataIn (now (b .entry)) ⌝ }
-{
-    let mut words = [0u32; 11];
-    let mut i: usize = 0;
-    while i < 11 {
-        words[i] = word_at(b, 7 + i);
-        i += 1;
-    }
-    words
 }
 
 // A COMMAND AS WORDS

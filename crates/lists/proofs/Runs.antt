@@ -48,6 +48,15 @@ splice-splice l u v at next e h =
     let rest = drop (at + length u) l in
     rw (← append-assoc (take at l) u rest, take-at (take at l ++ u) rest next head, ← drop-drop (length v) next, drop-at (take at l ++ u) rest next head, drop-drop, count, append-assoc, append-assoc)
 
+-- a write from the start, right before another
+pub splice-before : (l u v : List ℕ) (at : ℕ) → length u ≡ at → at ≤ length l → splice (splice l at v) 0 u ≡ splice l 0 (u ++ v)
+unfolding splice
+splice-before l u v at e h =
+    let head : length (take at l) ≡ at = length-take-le at l h in
+    let start : 0 + length u ≡ at = omega arith in
+    let count : 0 + length (u ++ v) ≡ at + length v = simp length-append (omega arith) in
+    rw (start, drop-at (take at l) (v ++ drop (at + length v) l) at head, count, append-assoc)
+
 -- one store of a loop that copies s
 pub copy-turn : (l b s : List ℕ) (at i : ℕ) → i < length s → at + i < length l → b ≡ splice l at (take i s)
     → set b (at + i) (getD s i 0) ≡ splice l at (take (i + 1) s)

@@ -1,12 +1,87 @@
-// The four dump places: which are busy, which is served next, and what a place does after a packet.
+// Dump places: what one does, and the four of a State. The four of a block of words are in lent_places.
 ghost use mathlib.Core.Path.{_≡_};
 ghost use lib.ListN.{length};
 ghost use Rattle.rules.specs.States.{contextAt, busyWith};
-ghost use Rattle.rules.specs.Commands.{anyWith, isIdle, anyIdle, firstIdle, firstWith, setContext};
-ghost use Rattle.rules.specs.Slots.{isBusy, anyBusy, nextPlace, afterPacket};
+ghost use Rattle.rules.specs.Commands.{isIdle, firstIdle, setContext};
+ghost use Rattle.rules.specs.Slots.{nextPlace, afterPacket};
+ghost use Rattle.places.specs.Turns.{turnOf, nextTurn, firstWithin, dumpFields};
 use rules::ActiveDump;
 use rules::Context;
 use rules::Place;
+
+// A dump and its place.
+pub struct Seat {
+    pub place: usize,
+    pub dump: ActiveDump,
+}
+
+// Whose packet is next.
+pub enum Turn {
+    Nobody,
+    Next(Seat),
+}
+
+// ONE PLACE: written once for both stores
+
+// Whether a place is busy with transaction t.
+pub fn busy_with(t: u16, a: Context) -> bool
+    ensures { λ r. ⌜ r ≡ busyWith t a ⌝ }
+{
+    match a {
+        Context::Idle => false,
+        Context::Busy(d) => d.transaction == t,
+    }
+}
+
+pub fn is_idle(a: Context) -> bool
+    ensures { λ r. ⌜ r ≡ isIdle a ⌝ }
+{
+    match a {
+        Context::Idle => true,
+        Context::Busy(_) => false,
+    }
+}
+
+pub fn turn_of(place: usize, a: Context) -> Turn
+    ensures { λ r. ⌜ r ≡ turnOf place a ⌝ }
+{
+    match a {
+        Context::Idle => Turn::Nobody,
+        Context::Busy(dump) => Turn::Next(Seat { place, dump }),
+    }
+}
+
+// The rules of a busy dump, but for its region.
+pub fn dump_fields(d: ActiveDump) -> bool
+    ensures { λ r. ⌜ r ≡ dumpFields d ⌝ }
+{
+    let words = d.range.words;
+    (d.transaction <= 4095)
+        & (1 <= words)
+        & (words <= 65535)
+        & (d.range.start.0 % 4 == 0)
+        & (d.sent % 1016 == 0)
+        & (d.sent < words)
+}
+
+// What the place of a dump does after its next packet: after the last it is freed.
+pub fn after_packet(d: ActiveDump) -> Context
+    ensures { λ r. ⌜ r ≡ afterPacket d ⌝ }
+{
+    let sent = d.sent as u64 + 1016;
+    let range = d.range;
+    if sent < range.words as u64 {
+        Context::Busy(ActiveDump {
+            transaction: d.transaction,
+            range,
+            sent: sent as u32,
+        })
+    } else {
+        Context::Idle
+    }
+}
+
+// THE PLACES OF A STATE
 
 // What the type says of the places, as a fact for a caller's proof.
 fn four_places(ps: [Place; 4])
@@ -26,34 +101,6 @@ pub fn context_at(ps: [Place; 4], i: usize) -> Context
     }
 }
 
-// Whether a place is busy with transaction t.
-pub fn busy_with(t: u16, a: Context) -> bool
-    ensures { λ r. ⌜ r ≡ busyWith t a ⌝ }
-{
-    match a {
-        Context::Idle => false,
-        Context::Busy(d) => d.transaction == t,
-    }
-}
-
-fn is_idle(a: Context) -> bool
-    ensures { λ r. ⌜ r ≡ isIdle a ⌝ }
-{
-    match a {
-        Context::Idle => true,
-        Context::Busy(_) => false,
-    }
-}
-
-fn is_busy(a: Context) -> bool
-    ensures { λ r. ⌜ r ≡ isBusy a ⌝ }
-{
-    match a {
-        Context::Idle => false,
-        Context::Busy(_) => true,
-    }
-}
-
 fn with_at(ps: [Place; 4], t: u16, i: usize) -> bool
     ensures { λ r. ⌜ r ≡ busyWith t (contextAt ps i) ⌝ }
 {
@@ -66,29 +113,18 @@ fn idle_at(ps: [Place; 4], i: usize) -> bool
     is_idle(context_at(ps, i))
 }
 
-fn busy_at(ps: [Place; 4], i: usize) -> bool
-    ensures { λ r. ⌜ r ≡ isBusy (contextAt ps i) ⌝ }
+// The lowest of the first k places that is busy with transaction t, and k where there is none.
+pub fn first_with(ps: [Place; 4], t: u16, k: usize) -> usize
+    ensures { λ r. ⌜ r ≡ firstWithin ps t k ⌝ }
 {
-    is_busy(context_at(ps, i))
-}
-
-// Whether some place is busy with transaction t.
-pub fn any_with(ps: [Place; 4], t: u16) -> bool
-    ensures { λ r. ⌜ r ≡ anyWith t ps ⌝ }
-{
-    with_at(ps, t, 0) | with_at(ps, t, 1) | with_at(ps, t, 2) | with_at(ps, t, 3)
-}
-
-pub fn any_idle(ps: [Place; 4]) -> bool
-    ensures { λ r. ⌜ r ≡ anyIdle ps ⌝ }
-{
-    idle_at(ps, 0) | idle_at(ps, 1) | idle_at(ps, 2) | idle_at(ps, 3)
-}
-
-pub fn any_busy(ps: [Place; 4]) -> bool
-    ensures { λ r. ⌜ r ≡ anyBusy ps ⌝ }
-{
-    busy_at(ps, 0) | busy_at(ps, 1) | busy_at(ps, 2) | busy_at(ps, 3)
+    let mut i: usize = 0;
+    while i < k {
+        if with_at(ps, t, i) {
+            return i;
+        }
+        i += 1;
+    }
+    i
 }
 
 // The lowest-numbered idle place, and 4 where there is none.
@@ -105,34 +141,28 @@ pub fn first_idle(ps: [Place; 4]) -> usize
     i
 }
 
-// The lowest-numbered place busy with transaction t, and 4 where there is none.
-pub fn first_with(ps: [Place; 4], t: u16) -> usize
-    ensures { λ r. ⌜ r ≡ firstWith t ps ⌝ }
-{
-    let mut i: usize = 0;
-    while i < 4 {
-        if with_at(ps, t, i) {
-            return i;
-        }
-        i += 1;
-    }
-    i
-}
-
 // The first busy place after the last one served, going round 0, 1, 2, 3.
-pub fn next_place(ps: [Place; 4], last: u8) -> usize
+fn next_place(ps: [Place; 4], last: u8) -> usize
     ensures { λ r. ⌜ r ≡ nextPlace ps last ⌝ }
 {
     let from = last as usize + 1;
     let mut k: usize = 0;
     while k < 4 {
         let at = (from + k) % 4;
-        if busy_at(ps, at) {
+        if !idle_at(ps, at) {
             return at;
         }
         k += 1;
     }
     (from + 4) % 4
+}
+
+// Whose packet is next.
+pub fn next_turn(ps: [Place; 4], last: u8) -> Turn
+    ensures { λ r. ⌜ r ≡ nextTurn ps last ⌝ }
+{
+    let at = next_place(ps, last);
+    turn_of(at, context_at(ps, at))
 }
 
 // The places with what place i does changed.
@@ -145,21 +175,4 @@ pub fn set_context(ps: [Place; 4], i: usize, a: Context) -> [Place; 4]
         qs[i] = Place { context: a };
     }
     qs
-}
-
-// What the place of a dump does after its next packet: after the last it is freed.
-pub fn after_packet(d: ActiveDump) -> Context
-    ensures { λ r. ⌜ r ≡ afterPacket d ⌝ }
-{
-    let sent = d.sent as u64 + 1016;
-    let range = d.range;
-    if sent < range.words as u64 {
-        Context::Busy(ActiveDump {
-            transaction: d.transaction,
-            range,
-            sent: sent as u32,
-        })
-    } else {
-        Context::Idle
-    }
 }

@@ -37,16 +37,10 @@ together f g =
 abbrev pub counted : Figures → Block → Figures
 counted f b = together f (figuresOf (b ∷ []))
 
--- THE REPLY, over the figures, in three parts: the primary header, what it is about, the figures
-
-abbrev pub replyHeader : ℕ → List ℕ
-replyHeader count = primaryHeader 0 0 replyApid count replyLength
-
-abbrev pub replySubject : ℕ → ℕ → ℕ → List ℕ
-replySubject unit transaction pool = identity unit transaction ++ be 2 pool ++ be 2 0
-
-abbrev pub replyFigures : Figures → List ℕ
-replyFigures f = be 4 (f .free) ++ be 4 (f .freeblocks) ++ be 4 (f .largest) ++ be 4 (f .used) ++ be 4 (f .usedblocks)
+-- THE REPLY, over the figures: the primary header, who answers which command about which pool, the figures
 
 unfoldable pub figureBytes : ℕ → ℕ → ℕ → ℕ → Figures → List ℕ
-figureBytes count unit transaction pool f = replyHeader count ++ replySubject unit transaction pool ++ replyFigures f
+figureBytes count unit transaction pool f =
+    primaryHeader 0 0 replyApid count replyLength ++ identity unit transaction ++ be 2 pool ++ be 2 0 ++ be 4 (f .free) ++ be 4 (f .freeblocks) ++ be 4 (f .largest)
+    ++ be 4 (f .used)
+    ++ be 4 (f .usedblocks)

@@ -2,11 +2,12 @@
 ghost use mathlib.Core.Path.{_≡_};
 ghost use mathlib.Core.Bool.{cond};
 ghost use Prim.Native.Nat.{_+_, _%_, _≤_, _<_};
-ghost use lib.Seq.{sets};
+ghost use lib.ListN.{length};
+ghost use Rattle.lists.specs.Splice.{splice};
+ghost use Rattle.wire.specs.Bytes.{wordBytes};
 ghost use Rattle.rules.specs.Pools.{blockOf, blocksOf};
-ghost use Rattle.pool.specs.Answers.{counted, walkedOf, replyHeader, replySubject, replyFigures, figureBytes};
-use wire::put16;
-use wire::put32;
+ghost use Rattle.pool.specs.Answers.{counted, walkedOf, figureBytes};
+use wire::put_words;
 
 // Free words, free blocks, size of the largest free block; used words, used blocks.
 pub struct Figures {
@@ -80,39 +81,30 @@ pub fn walk_pool(pool: &[u32]) -> Walked
     Walked::Whole(f)
 }
 
-// The primary header.
-fn put_header(reply: &mut [u8], count: u16)
-    ensures { λ _. ⌜ now (reply .exit) ≡ sets (now (reply .entry)) 0 (replyHeader (count % 16384)) ⌝ }
+// The reply as eight words, each number cut to its field.
+fn reply_words(count: u16, unit: u8, transaction: u16, pool: u16, f: Figures) -> [u32; 8]
+    ensures { λ r. ⌜ wordBytes r ≡ figureBytes (count % 16384) (unit % 16) (transaction % 4096) pool f ⌝ }
 {
-    put16(reply, 0, 785);
-    put16(reply, 2, 49152 + count % 16384);
-    put16(reply, 4, 25);
+    let sequence = 49152 + (count % 16384) as u32;
+    let identity = 4096 * (unit % 16) as u32 + (transaction % 4096) as u32;
+    [
+        785 * 65536 + sequence,
+        25 * 65536 + identity,
+        pool as u32 * 65536,
+        (f.free % 4294967296) as u32,
+        (f.freeblocks % 4294967296) as u32,
+        (f.largest % 4294967296) as u32,
+        (f.used % 4294967296) as u32,
+        (f.usedblocks % 4294967296) as u32,
+    ]
 }
 
-// Who answers which command about which pool.
-fn put_subject(reply: &mut [u8], unit: u8, transaction: u16, pool: u16)
-    ensures { λ _. ⌜ now (reply .exit) ≡ sets (now (reply .entry)) 6 (replySubject (unit % 16) (transaction % 4096) pool) ⌝ }
-{
-    put16(reply, 6, 4096 * ((unit % 16) as u16) + transaction % 4096);
-    put16(reply, 8, pool);
-    put16(reply, 10, 0);
-}
-
-fn put_figures(reply: &mut [u8], f: Figures)
-    ensures { λ _. ⌜ now (reply .exit) ≡ sets (now (reply .entry)) 12 (replyFigures f) ⌝ }
-{
-    put32(reply, 12, (f.free % 4294967296) as u32);
-    put32(reply, 16, (f.freeblocks % 4294967296) as u32);
-    put32(reply, 20, (f.largest % 4294967296) as u32);
-    put32(reply, 24, (f.used % 4294967296) as u32);
-    put32(reply, 28, (f.usedblocks % 4294967296) as u32);
-}
-
-// The reply at the start of the buffer, each number cut to its field. Of a shorter buffer the bytes that it has are written.
+// The reply at the start of the buffer, each number cut to its field. Where it does not fit, nothing is written.
 pub fn put_reply(reply: &mut [u8], count: u16, unit: u8, transaction: u16, pool: u16, f: Figures)
-    ensures { λ _. ⌜ now (reply .exit) ≡ sets (now (reply .entry)) 0 (figureBytes (count % 16384) (unit % 16) (transaction % 4096) pool f) ⌝ }
+    ensures { λ _. ⌜
+        (32 ≤ length (now (reply .entry)) → now (reply .exit) ≡ splice (now (reply .entry)) 0 (figureBytes (count % 16384) (unit % 16) (transaction % 4096) pool f))
+        × (length (now (reply .entry)) < 32 → now (reply .exit) ≡ now (reply .entry)) ⌝ }
 {
-    put_header(reply, count);
-    put_subject(reply, unit, transaction, pool);
-    put_figures(reply, f);
+    let words = reply_words(count, unit, transaction, pool, f);
+    put_words(reply, 0, &words);
 }

@@ -1,78 +1,103 @@
--- The steps of the table's test, of the lookup and of the image's length give what the definitions give.
+-- The test of one region, one turn of each loop over the table, and what the loops end with.
 -- Assumes nothing.
-use mathlib.Core.Path.{_≡_, sym, ap, _∙_}
-use mathlib.Core.Bool.{Bool, true, _&&_}
+use mathlib.Core.Path.{_≡_, refl, sym, _∙_}
+use mathlib.Core.Bool.{Bool, true, false, _&&_, _||_}
 use mathlib.Core.List.{List}
-use Prim.Native.Nat.{ℕ, _+_, _-_, _/_, min, _≤_, _<_}
-use native.Mathlib.Nat.{min-eq-left}
+use Prim.Native.Nat.{ℕ, _+_, _*_, _-_, _/_, _≤_, _<_}
+use native.Mathlib.Numerals.{add-one}
 use native.Mathlib.Omega.{arith}
-use lib.Dec.{leb, ltb}
-use lib.ListN.{length, List·getD-eq-default}
-use borrow.Author.Tests.{lt-leb, lt-ltb, le-ltb}
-use Rattle.lists.specs.Below.{allBelow, firstBelow}
-use Rattle.lists.proofs.Tests.{either, by-lt}
-use Rattle.lists.proofs.Below.{any-first, sum-past}
-use Rattle.rules.specs.Regions.{startOf, noRegion, rangeAt, regionRules, tableRules, anyRight, holds, inOneRegion, wordsBelow, imageLength, regionOf, imageIndex}
-use Rattle.rules.proofs.Table.{region-holds}
-use Rattle.regions.specs.Lookup.{findRegion}
-use Rattle.regions.specs.declared.Found.{Found}
-use Rattle.regions.specs.declared.Found.the-variants.{Nowhere, At}
+use lib.Dec.{leb, ltb, eqb}
+use borrow.Author.Tests.{ltb-false, eqb-false, ne-eqb, le-leb, lt-leb, le-ltb}
+use Rattle.lists.specs.Below.{allBelow, anyBelow}
+use Rattle.lists.proofs.Tests.{either, contra, and-right, or-left, or-right}
+use Rattle.lists.proofs.Below.{all-at, any-of, none-at, any-same, first-is, sum-more}
+use Rattle.rules.specs.Regions.{startOf, endOf, regionAt, rangeAt, endBefore, regionRules, tableRules, anyRight, holds, inOneRegion, wordsBelow, imageLength, regionOf, imageIndex}
+use Rattle.rules.proofs.Table.{table-count}
 use Rattle.rules.specs.declared.Range.{Range}
+use Rattle.rules.specs.declared.Refusal.the-variants.{OutsideRegions}
 use Rattle.rules.specs.declared.Region.{Region}
+use Rattle.regions.specs.Lookup.{holdsBy, tableWords, findRegion}
+use Rattle.regions.specs.declared.Found.the-variants.{Missed, At}
 
--- THE TABLE
+pub and-true : (a : Bool) → (a && true) ≡ a
+and-true true = refl
+and-true false = refl
 
--- the entries that are looked at are those in use, where there are no more than sixteen
-pub table-tested : (rs : List Region) (n m : ℕ) → m ≡ min n 16 → (all : Bool) → all ≡ allBelow (regionRules rs) m
-    → (leb 1 n && leb n 16 && all) ≡ tableRules rs n
-unfolding tableRules
-table-tested rs n m em all ea =
-    by-lt 16 n
-    (λ h. rw (lt-leb n 16 h) (either (leb 1 n) (λ e. rw e) (λ e. rw e)))
-    (λ h. rw (ea, em, min-eq-left {n = n} {m = 16} h))
+-- ONE REGION, its end tested first
 
--- THE LOOKUP
+module _ (start words from end e : ℕ) (ee : e ≡ start + 4 * words) where
+  pub held-not : e < end → false ≡ holdsBy start words from end
+  held-not l = rw (← ee, lt-leb end e l) (either (leb start from) (λ h. rw h) (λ h. rw h))
 
-pub one-tested : (right : Region → Bool) (rs : List Region) (n m : ℕ) (a : Range) → m ≡ min n 16 → (k : ℕ) → k ≡ firstBelow (holds right rs a) m
-    → ltb k m ≡ inOneRegion right rs (min n 16) a
-unfolding inOneRegion
-one-tested right rs n m a em k ek = rw (← em, ek) (sym (any-first (holds right rs a) m))
+  pub held-from : end ≤ e → leb start from ≡ holdsBy start words from end
+  held-from l = rw (← ee, le-leb end e l) (sym (and-true _))
 
--- what the lookup finds starts at or before the range
-pub found-start : (rs : List Region) (m : ℕ) (a : Range) (k : ℕ) → k ≡ firstBelow (holds anyRight rs a) m → k < m → startOf (rangeAt rs k) ≤ startOf a
-unfolding inOneRegion regionOf
-found-start rs m a k ek l =
-    let one : inOneRegion anyRight rs m a ≡ true = any-first (holds anyRight rs a) m ∙ rw (← ek) (lt-ltb k m l) in
-    rw ek (region-holds rs m a one .from)
+-- THE TABLE'S TEST
 
-module _ (rs : List Region) (n m : ℕ) (a : Range) (em : m ≡ min n 16) (k : ℕ) (ek : k ≡ firstBelow (holds anyRight rs a) m) where
-  pub found-nowhere : m ≤ k → Nowhere ≡ findRegion rs (min n 16) a
+module _ (rs : List Region) (n : ℕ) where
+  table-not : (tableRules rs n ≡ true → ⊥) → 0 ≡ tableWords rs n
+  unfolding tableWords
+  table-not f = either (tableRules rs n) (λ e. absurd (f e)) (λ e. rw e)
+
+  -- no region, or too many
+  pub table-outside : (eqb n 0 || ltb 16 n) ≡ true → 0 ≡ tableWords rs n
+  table-outside h =
+      table-not (λ e. let c = table-count rs n e in contra h (rw (ne-eqb n 0 (λ z. omega arith), le-ltb 16 n (c .1))))
+
+  pub table-inside : (eqb n 0 || ltb 16 n) ≡ false → (1 ≤ n) × (n ≤ 16)
+  table-inside h =
+      let some = eqb-false n 0 (or-left (eqb n 0) (ltb 16 n) h) in
+      let most = ltb-false 16 n (or-right (eqb n 0) (ltb 16 n) h) in
+      (omega arith, most)
+
+  -- a region that breaks a rule
+  pub table-broken : (i : ℕ) → i < n → regionRules rs i ≡ false → 0 ≡ tableWords rs n
+  unfolding tableRules
+  table-broken i l h =
+      table-not (λ e. contra (all-at (regionRules rs) n (and-right (leb 1 n && leb n 16) (allBelow (regionRules rs) n) e) l) h)
+
+  -- none does
+  pub table-kept : 1 ≤ n → n ≤ 16 → allBelow (regionRules rs) n ≡ true → imageLength rs n ≡ tableWords rs n
+  unfolding tableWords tableRules
+  table-kept o m h = rw (le-leb 1 n o, le-leb n 16 m, h)
+
+-- ONE TURN
+
+module _ (rs : List Region) (i : ℕ) where
+  pub end-more : endOf (rangeAt rs i) ≡ endBefore rs (i + 1)
+  end-more = rw (add-one i)
+
+  pub words-more : wordsBelow rs i + rangeAt rs i .words ≡ wordsBelow rs (i + 1)
+  unfolding wordsBelow
+  words-more = sym (sum-more (λ k. rangeAt rs k .words) i)
+
+-- THE LOOKUP, with the end of the range worked out before
+
+abbrev pub held : List Region → ℕ → ℕ → ℕ → Bool
+held rs from end i = holdsBy (startOf (rangeAt rs i)) (rangeAt rs i .words) from end
+
+module _ (rs : List Region) (m : ℕ) (a : Range) (end : ℕ) (ee : end ≡ endOf a) where
+  held-at : (i : ℕ) → held rs (startOf a) end i ≡ holds anyRight rs a i
+  held-at i = rw ee (sym (and-true _))
+
+  held-below : anyBelow (held rs (startOf a) end) m ≡ inOneRegion anyRight rs m a
+  unfolding inOneRegion
+  held-below = any-same _ (holds anyRight rs a) m (λ i l. held-at i)
+
+  pub found-none : (i : ℕ) → i ≤ m → m ≤ i → anyBelow (held rs (startOf a) end) i ≡ false → Missed OutsideRegions ≡ findRegion rs m a
   unfolding findRegion
-  found-nowhere l = rw (← one-tested anyRight rs n m a em k ek, le-ltb k m l)
+  found-none i l k h =
+      let e : m ≡ i = omega arith in
+      let none : inOneRegion anyRight rs m a ≡ false = sym held-below ∙ rw e h in
+      rw none
 
-  pub found-at : k < m → (base : ℕ) → base ≡ wordsBelow rs k
-      → At (record { region = k; index = record { 0 = base + (startOf a - startOf (rangeAt rs k)) / 4 } }) ≡ findRegion rs (min n 16) a
-  unfolding findRegion regionOf imageIndex
-  found-at l base eb = rw (← one-tested anyRight rs n m a em k ek, lt-ltb k m l, ← em, ← ek, eb)
-
--- the entries that are looked at are all, where there are no more than sixteen
-module _ (rs : List Region) (n : ℕ) (a : Range) where
-  pub one-of-all : (right : Region → Bool) {b : Bool} → b ≡ inOneRegion right rs (min n 16) a → n ≤ 16 → b ≡ inOneRegion right rs n a
-  one-of-all right e h = rw (min-eq-left {n = n} {m = 16} h) at e
-
-  pub found-of-all : {f : Found} → f ≡ findRegion rs (min n 16) a → n ≤ 16 → f ≡ findRegion rs n a
-  found-of-all e h = rw (min-eq-left {n = n} {m = 16} h) at e
-
--- THE IMAGE
-
--- entries past the sixteenth have no words
-pub length-tested : (rs : List Region) (n m : ℕ) → m ≡ min n 16 → length rs ≡ 16 → wordsBelow rs m ≡ imageLength rs n
-unfolding wordsBelow
-length-tested rs n m em l =
-    by-lt 16 n
-    (λ h. let e : m ≡ 16 = omega arith in
-    rw e (sym (sum-past (λ i. rangeAt rs i .words) 16 n (omega arith) none)))
-    (λ h. let e : m ≡ n = omega arith in rw e)
-  where
-    none : (i : ℕ) → 16 ≤ i → rangeAt rs i .words ≡ 0
-    none i h = ap (λ (r : Region). r .range .words) (List·getD-eq-default rs noRegion {n = i} (omega arith))
+  pub found-at : (i : ℕ) → i < m → held rs (startOf a) end i ≡ true → anyBelow (held rs (startOf a) end) i ≡ false
+      → (base offset : ℕ) → base ≡ wordsBelow rs i → offset ≡ (startOf a - startOf (rangeAt rs i)) / 4
+      → At (record { region = i; index = record { 0 = base + offset }; load = regionAt rs i .load; dump = regionAt rs i .dump }) ≡ findRegion rs m a
+  unfolding findRegion imageIndex regionOf
+  found-at i l h none base offset eb eo =
+      let k : regionOf rs m a ≡ i =
+      first-is (holds anyRight rs a) m l (sym (held-at i) ∙ h) (λ j q. sym (held-at j) ∙ none-at (held rs (startOf a) end) i none q)
+      in
+      let some : inOneRegion anyRight rs m a ≡ true = sym held-below ∙ any-of (held rs (startOf a) end) m l h in
+      rw (some, k, eb, eo)

@@ -1,163 +1,130 @@
-// The region table: its rules, and where a range lies in it and in the image.
+// Regions: the rules of one, what a lookup answers, and the table of a State. The table of a block of words is in lent_regions.
 ghost use mathlib.Core.Path.{_≡_};
-ghost use mathlib.Core.Bool.{_&&_};
-ghost use mathlib.Core.List.{List};
-ghost use Prim.Native.Nat.{ℕ, _*_, _<_, _≤_, min};
-ghost use Rattle.lists.specs.Below.{firstBelow};
-ghost use Rattle.rules.specs.Regions.{endOf, within, rangeAt, endBefore, regionRules, tableRules, holds, inOneRegion, wordsBelow, imageLength};
-ghost use Rattle.rules.specs.declared.Region.{Region};
-ghost use Rattle.regions.specs.Lookup.{rightOf, findRegion};
+ghost use Prim.Native.Nat.{_+_, _*_, _-_, _/_, min};
+ghost use Rattle.regions.specs.Lookup.{rulesBy, holdsBy, tableWords, findRegion, canDump};
 use rules::Range;
+use rules::Refusal;
 use rules::Region;
 use rules::WordIndex;
 
-// What a range may need of its region.
-pub enum Right {
-    Any,
-    Load,
-    Dump,
-}
-
-// A region's index in the table, and the index in the image of a word of it.
+// Where a range begins: its region's number and rights, and the index in the image of its first word.
 pub struct Spot {
     pub region: usize,
     pub index: WordIndex,
+    pub load: bool,
+    pub dump: bool,
 }
 
-// Where a range that lies whole in one region begins.
+// Where a range lies, or the number for one that lies whole in no region.
 pub enum Found {
-    Nowhere,
+    Missed(Refusal),
     At(Spot),
 }
 
+// ONE REGION: written once for both tables
+
 // The end of a range, in 64 bits: it may be 2^32 and more.
-fn end_of(r: Range) -> u64
-    ensures { λ e. ⌜ e ≡ endOf r ⌝ }
+pub fn end_of(start: u32, words: u32) -> u64
+    ensures { λ e. ⌜ e ≡ start + 4 * words ⌝ }
 {
-    r.start.0 as u64 + 4 * r.words as u64
+    start as u64 + 4 * words as u64
 }
 
-fn is_within(a: Range, b: Range) -> bool
-    ensures { λ r. ⌜ r ≡ within a b ⌝ }
+// The rules of a region, with the end of the region before it.
+pub fn region_rules(start: u32, words: u32, before: u64) -> bool
+    ensures { λ b. ⌜ b ≡ rulesBy start words before ⌝ }
 {
-    (b.start.0 <= a.start.0) & (end_of(a) <= end_of(b))
+    (start % 4 == 0)
+        & (1 <= words)
+        & (words <= 1048576)
+        & (end_of(start, words) <= 4294967296)
+        & (before <= start as u64)
 }
 
-fn has_right(r: Region, right: Right) -> bool
-    ensures { λ b. ⌜ b ≡ rightOf right r ⌝ }
+// Whether a region holds whole what begins at `from` and ends at `end`. Most regions fail at their end, so that is tested first.
+pub fn is_holding(start: u32, words: u32, from: u32, end: u64) -> bool
+    ensures { λ b. ⌜ b ≡ holdsBy start words from end ⌝ }
 {
-    match right {
-        Right::Any => true,
-        Right::Load => r.load,
-        Right::Dump => r.dump,
+    if end_of(start, words) < end {
+        return false;
     }
+    start <= from
 }
 
-// Whether a region holds the range whole and has the right.
-fn is_holding(r: Region, a: Range, right: Right) -> bool
-    ensures { λ b. ⌜ b ≡ (within a (r .range) && rightOf right r) ⌝ }
+// The words of a region before address `from`.
+pub fn words_before(start: u32, from: u32) -> u32
+    ensures { λ w. ⌜ w ≡ (from - start) / 4 ⌝ }
 {
-    let range = r.range;
-    is_within(a, range) & has_right(r, right)
+    if from < start { 0 } else { (from - start) / 4 }
 }
 
 // The entries to look at: no more than there are.
-fn entries(n: usize) -> usize
+pub fn entries(n: usize) -> usize
     ensures { λ m. ⌜ m ≡ min n 16 ⌝ }
 {
     if n <= 16 { n } else { 16 }
 }
 
-// The rules of a region, with the end of the region before it.
-fn region_rules(r: Range, before: u64) -> bool
-    ensures { λ b. ⌜ ((rs : List Region) (i : ℕ) → r ≡ rangeAt rs i → before ≡ endBefore rs i → b ≡ regionRules rs i) ⌝ }
+// Whether what was found has the dump right.
+pub fn can_dump(f: Found) -> bool
+    ensures { λ b. ⌜ b ≡ canDump f ⌝ }
 {
-    let start = r.start.0 as u64;
-    let words = r.words as u64;
-    (start % 4 == 0)
-        & (1 <= words)
-        & (words <= 1048576)
-        & (start + 4 * words <= 4294967296)
-        & (before <= start)
+    match f {
+        Found::Missed(_) => false,
+        Found::At(spot) => spot.dump,
+    }
 }
 
-// Whether the first n entries are a table by the rules.
-pub fn table_rules(rs: [Region; 16], n: usize) -> bool
-    ensures { λ b. ⌜ b ≡ tableRules rs n ⌝ }
+// THE TABLE OF A STATE
+
+// The words of the image of the first n regions, or 0 where the table breaks a rule.
+pub fn table_words(rs: [Region; 16], n: usize) -> usize
+    ensures { λ t. ⌜ t ≡ tableWords rs n ⌝ }
 {
-    let m = entries(n);
-    let mut all = true;
+    if (n == 0) | (16 < n) {
+        return 0;
+    }
+    let mut total: usize = 0;
     let mut before: u64 = 0;
     let mut i: usize = 0;
-    while i < m {
+    while i < n {
         let r = rs[i];
-        let range = r.range;
-        all = all & region_rules(range, before);
-        before = end_of(range);
-        i += 1;
-    }
-    (1 <= n) & (n <= 16) & all
-}
-
-// The first of m regions that holds the range whole and has the right, or m.
-fn first_holding(rs: [Region; 16], m: usize, a: Range, right: Right) -> usize
-    requires { ⌜ m ≤ 16 ⌝ }
-    ensures { λ k. ⌜ k ≡ firstBelow (holds (rightOf right) rs a) m ⌝ }
-{
-    let mut i: usize = 0;
-    while i < m {
-        let r = rs[i];
-        if is_holding(r, a, right) {
-            return i;
+        let start = r.range.start.0;
+        let words = r.range.words;
+        if !region_rules(start, words, before) {
+            return 0;
         }
-        i += 1;
-    }
-    i
-}
-
-// Whether one of the first n regions, and no more than there are, holds the range whole and has the right.
-pub fn in_one_region(rs: [Region; 16], n: usize, a: Range, right: Right) -> bool
-    ensures { λ b. ⌜ b ≡ inOneRegion (rightOf right) rs (min n 16) a ⌝ }
-{
-    let m = entries(n);
-    first_holding(rs, m, a, right) < m
-}
-
-// The words of the regions below k.
-fn words_below(rs: [Region; 16], k: usize) -> usize
-    requires { ⌜ k ≤ 16 ⌝ }
-    ensures { λ t. ⌜ (t ≡ wordsBelow rs k) × (t ≤ 4294967296 * k) ⌝ }
-{
-    let mut total: usize = 0;
-    let mut i: usize = 0;
-    while i < k {
-        let r = rs[i];
+        before = end_of(start, words);
         total += r.range.words as usize;
         i += 1;
     }
     total
 }
 
-// How many words the image of the first n regions has.
-pub fn image_length(rs: [Region; 16], n: usize) -> usize
-    ensures { λ t. ⌜ t ≡ imageLength rs n ⌝ }
-{
-    let m = entries(n);
-    words_below(rs, m)
-}
-
-// The region that holds the range whole, and where the range begins in the image. No other code turns an address into a word's index.
+// The region that holds the range whole, and where the range begins in the image.
 pub fn find_region(rs: [Region; 16], n: usize, a: Range) -> Found
     ensures { λ f. ⌜ f ≡ findRegion rs (min n 16) a ⌝ }
 {
     let m = entries(n);
-    let k = first_holding(rs, m, a, Right::Any);
-    if m <= k {
-        return Found::Nowhere;
+    let from = a.start.0;
+    let end = end_of(from, a.words);
+    let mut base: usize = 0;
+    let mut i: usize = 0;
+    while i < m {
+        let r = rs[i];
+        let start = r.range.start.0;
+        let words = r.range.words;
+        if is_holding(start, words, from, end) {
+            let index = WordIndex(base + words_before(start, from) as usize);
+            return Found::At(Spot {
+                region: i,
+                index,
+                load: r.load,
+                dump: r.dump,
+            });
+        }
+        base += r.range.words as usize;
+        i += 1;
     }
-    let r = rs[k];
-    let offset = (a.start.0 - r.range.start.0) / 4;
-    let base = words_below(rs, k);
-    let index = WordIndex(base + offset as usize);
-    Found::At(Spot { region: k, index })
+    Found::Missed(Refusal::OutsideRegions)
 }

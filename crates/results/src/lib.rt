@@ -1,5 +1,6 @@
 // Paper 01's number, and the length, of each answer.
 ghost use mathlib.Core.Path.{_≡_};
+ghost use Prim.Native.Nat.{_%_};
 ghost use Rattle.rules.specs.Ground.{readingNumber, packetNumber};
 ghost use Rattle.rules.specs.Results.{number, verdictNumber, answerNumber, answerLength};
 use rules::Answer;
@@ -76,4 +77,12 @@ pub fn packet_number(a: PacketReading) -> u32
         PacketReading::NoPacket(r) => refusal_number(r),
         PacketReading::Packet(_) => 0,
     }
+}
+
+// Hands an answer over to C: the bytes written, and the number.
+pub fn hand_over(a: Answer, bytes: &mut u32) -> u32
+    ensures { λ n. ⌜ (n ≡ answerNumber a) × (now (bytes .exit) ≡ answerLength a % 4294967296) ⌝ }
+{
+    *bytes = (answer_length(a) % 4294967296) as u32;
+    answer_number(a)
 }

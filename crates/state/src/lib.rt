@@ -1,16 +1,15 @@
 // The good state, and start-up.
 ghost use mathlib.Core.Path.{_≡_};
-ghost use mathlib.Core.List.{List};
-ghost use Prim.Native.Nat.{ℕ, _<_, _≤_};
-ghost use lib.ListN.{length};
-ghost use Rattle.lists.specs.Below.{allBelow};
-ghost use Rattle.rules.specs.Results.{lowest, lentRows};
-ghost use Rattle.rules.specs.States.{poolRules, startRules, entriesUsed, freshState, noState, startUp, dumpRules, contextAt, contextRules, apart, placeRules, placesRules, countRules, goodState};
-use places::busy_with;
-use regions::Right;
-use regions::image_length;
-use regions::in_one_region;
-use regions::table_rules;
+ghost use mathlib.Core.Bool.{true, cond};
+ghost use Prim.Native.Nat.{_≤_};
+ghost use Rattle.rules.specs.Regions.{tableRules, imageLength};
+ghost use Rattle.rules.specs.States.{poolRules, startRules, entriesUsed, freshState, noState, startUp, dumpRules, placeRules, placesRules, countRules, goodState};
+use places::context_at;
+use places::dump_fields;
+use places::first_with;
+use regions::can_dump;
+use regions::find_region;
+use regions::table_words;
 use rules::ActiveDump;
 use rules::Address;
 use rules::Context;
@@ -22,88 +21,52 @@ use rules::Started;
 use rules::State;
 use rules::Verdict;
 
-// Whether a pool is none, or by the rules.
+// Whether a pool is none, or by the rules. The table is by the rules.
 fn pool_rules(rs: [Region; 16], n: usize, p: Range) -> bool
-    ensures { λ b. ⌜ (n ≤ 16 → b ≡ poolRules rs n p) ⌝ }
+    ensures { λ b. ⌜ (tableRules rs n ≡ true → b ≡ poolRules rs n p) ⌝ }
 {
-    let start = p.start.0;
-    let words = p.words;
-    if words == 0 {
-        return start == 0;
+    if p.words == 0 {
+        return p.start.0 == 0;
     }
-    (start % 4 == 0) & in_one_region(rs, n, p, Right::Dump)
+    (p.start.0 % 4 == 0) & can_dump(find_region(rs, n, p))
 }
 
-// What start-up tests.
-fn start_rules(rs: [Region; 16], n: usize, ps: [Range; 2], unit: u8) -> bool
-    ensures { λ b. ⌜ b ≡ startRules rs n ps unit ⌝ }
+// The words of the image where start-up takes the table, the pools and the unit, else 0.
+fn start_words(rs: [Region; 16], n: usize, ps: [Range; 2], unit: u8) -> usize
+    ensures { λ w. ⌜ w ≡ cond (startRules rs n ps unit) (imageLength rs n) 0 ⌝ }
 {
+    let words = table_words(rs, n);
+    if words == 0 {
+        return 0;
+    }
     let p = ps[0];
     let q = ps[1];
-    table_rules(rs, n) & pool_rules(rs, n, p) & pool_rules(rs, n, q) & (unit <= 15)
+    if !(pool_rules(rs, n, p) & pool_rules(rs, n, q) & (unit <= 15)) {
+        return 0;
+    }
+    words
 }
 
+// The table is by the rules.
 fn dump_rules(rs: [Region; 16], n: usize, d: ActiveDump) -> bool
-    ensures { λ b. ⌜ (n ≤ 16 → b ≡ dumpRules rs n d) ⌝ }
+    ensures { λ b. ⌜ (tableRules rs n ≡ true → b ≡ dumpRules rs n d) ⌝ }
 {
     let range = d.range;
-    let start = range.start.0;
-    let words = range.words;
-    (d.transaction <= 4095)
-        & (1 <= words)
-        & (words <= 65535)
-        & (start % 4 == 0)
-        & in_one_region(rs, n, range, Right::Dump)
-        & (d.sent % 1016 == 0)
-        & (d.sent < words)
-}
-
-fn context_rules(rs: [Region; 16], n: usize, c: Context) -> bool
-    ensures { λ b. ⌜ (n ≤ 16 → b ≡ contextRules rs n c) ⌝ }
-{
-    match c {
-        Context::Idle => true,
-        Context::Busy(d) => dump_rules(rs, n, d),
-    }
-}
-
-// Whether the two are not busy with one transaction number.
-fn are_apart(a: Context, b: Context) -> bool
-    ensures { λ r. ⌜ r ≡ apart a b ⌝ }
-{
-    match a {
-        Context::Idle => true,
-        Context::Busy(d) => !busy_with(d.transaction, b),
-    }
-}
-
-// Whether c shares its transaction number with none of the first k places.
-fn apart_below(ps: [Place; 4], c: Context, k: usize) -> bool
-    requires { ⌜ k ≤ 4 ⌝ }
-    ensures { λ b. ⌜ b ≡ allBelow (λ j. apart c (contextAt ps j)) k ⌝ }
-{
-    let mut all = true;
-    let mut j: usize = 0;
-    while j < k {
-        let p = ps[j];
-        let other = p.context;
-        all = all & are_apart(c, other);
-        j += 1;
-    }
-    all
+    dump_fields(d) & can_dump(find_region(rs, n, range))
 }
 
 fn place_rules(rs: [Region; 16], n: usize, ps: [Place; 4], i: usize) -> bool
-    requires { ⌜ i < 4 ⌝ }
-    ensures { λ b. ⌜ (n ≤ 16 → b ≡ placeRules rs n ps i) ⌝ }
+    ensures { λ b. ⌜ (tableRules rs n ≡ true → b ≡ placeRules rs n ps i) ⌝ }
 {
-    let p = ps[i];
-    let c = p.context;
-    context_rules(rs, n, c) & apart_below(ps, c, i)
+    let c = context_at(ps, i);
+    match c {
+        Context::Idle => true,
+        Context::Busy(d) => dump_rules(rs, n, d) & (first_with(ps, d.transaction, i) == i),
+    }
 }
 
 fn places_rules(rs: [Region; 16], n: usize, ps: [Place; 4]) -> bool
-    ensures { λ b. ⌜ (n ≤ 16 → b ≡ placesRules rs n ps) ⌝ }
+    ensures { λ b. ⌜ (tableRules rs n ≡ true → b ≡ placesRules rs n ps) ⌝ }
 {
     place_rules(rs, n, ps, 0)
         & place_rules(rs, n, ps, 1)
@@ -121,15 +84,22 @@ fn count_rules(s: State) -> bool
         & (s.refused <= 65535)
 }
 
-// Whether a state is good.
-pub fn good_state(s: State) -> bool
-    ensures { λ b. ⌜ b ≡ goodState s ⌝ }
+// The words of the image of a good state, which has at least one; else 0.
+pub fn good_words(s: State) -> usize
+    ensures { λ w. ⌜ w ≡ cond (goodState s) (imageLength (s .regions) (s .count)) 0 ⌝ }
 {
     let rs = s.regions;
     let n = s.count;
     let pools = s.pools;
     let places = s.places;
-    start_rules(rs, n, pools, s.unit) & count_rules(s) & places_rules(rs, n, places)
+    let words = start_words(rs, n, pools, s.unit);
+    if words == 0 {
+        return 0;
+    }
+    if !(count_rules(s) & places_rules(rs, n, places)) {
+        return 0;
+    }
+    words
 }
 
 // The first n entries, and the rest unused.
@@ -195,7 +165,7 @@ fn no_state() -> State
 pub fn start_up(rs: [Region; 16], n: usize, ps: [Range; 2], unit: u8) -> Started
     ensures { λ r. ⌜ r ≡ startUp rs n ps unit ⌝ }
 {
-    if !start_rules(rs, n, ps, unit) {
+    if start_words(rs, n, ps, unit) == 0 {
         let state = no_state();
         return Started {
             verdict: Verdict::Rejected(Refusal::BadTable),
@@ -208,21 +178,4 @@ pub fn start_up(rs: [Region; 16], n: usize, ps: [Range; 2], unit: u8) -> Started
         verdict: Verdict::Accepted,
         state,
     }
-}
-
-// Numbers 1, 2 and 3 for a call that is lent an image and a buffer of these lengths and needs `size` bytes.
-pub fn lent_verdict(s: State, image: usize, size: usize, buffer: usize) -> Verdict
-    ensures { λ r. ⌜ ((words bytes : List ℕ) → length words ≡ image → length bytes ≡ buffer → r ≡ lowest (lentRows s words size bytes)) ⌝ }
-{
-    let rs = s.regions;
-    if !good_state(s) {
-        return Verdict::Rejected(Refusal::BadState);
-    }
-    if image != image_length(rs, s.count) {
-        return Verdict::Rejected(Refusal::ImageLength);
-    }
-    if buffer < size {
-        return Verdict::Rejected(Refusal::BufferLength);
-    }
-    Verdict::Accepted
 }

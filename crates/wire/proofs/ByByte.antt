@@ -5,7 +5,7 @@ use mathlib.Core.List.{List, [], _∷_, _++_}
 use Prim.Native.Nat.{ℕ, zero, suc, _+_, _*_, _/_, _%_, _<_}
 use native.Mathlib.Nat.{add-zero}
 use native.Mathlib.Omega.{arith}
-use lib.Bits.{bitXor, xor-zero-l, xor-zero-r}
+use lib.Bits.{xor-zero-r}
 use lib.ListN.{length, getD, drop}
 use lib.Seq.{getD-append-add}
 use Rattle.wire.specs.Bytes.{be, beAt, wordBytes, wordsAt}
@@ -13,7 +13,7 @@ use Rattle.wire.specs.Xor.{xorAll}
 use Rattle.wire.specs.ByByte.{two, four, FourEach, WordsFrom, ByByte}
 use Rattle.wire.proofs.Lengths.{word-bytes-length}
 use Rattle.wire.proofs.Words.{words-at-length, words-at-word}
-use Rattle.wire.proofs.Xor.{xor-assoc}
+use Rattle.wire.proofs.Xor.{xor-joined}
 
 pub at-two : (p : List ℕ) (at : ℕ) → beAt 2 p at ≡ two p at
 at-two p at = let e = ap (λ (i : ℕ). getD p i 0) (add-zero at) in omega (arith, e)
@@ -33,11 +33,6 @@ word-byte (w ∷ ws) zero j h = let e : 4 * 0 + j ≡ j = omega arith in ap (λ 
 word-byte (w ∷ ws) (suc k) j h =
     let e : 4 * suc k + j ≡ 4 + (4 * k + j) = omega arith in
     ap (λ (i : ℕ). getD (be 4 w ++ wordBytes ws) i 0) e ∙ getD-append-add (be 4 w) (wordBytes ws) (4 * k + j) 0 ∙ word-byte ws k j (omega arith)
-
-xor-joined : (u v : List ℕ) → xorAll (u ++ v) ≡ bitXor (xorAll u) (xorAll v)
-unfolding xorAll
-xor-joined [] v = sym (xor-zero-l (xorAll v))
-xor-joined (b ∷ u) v = ap (bitXor b) (xor-joined u v) ∙ sym (xor-assoc b (xorAll u) (xorAll v))
 
 pub by-byte : ByByte
 by-byte =

@@ -59,3 +59,12 @@ be-of (suc n) p at b =
     let q : (beAt n p at * 256 + getD p (at + n) 0) / 256 ≡ beAt n p at = omega arith in
     let r : (beAt n p at * 256 + getD p (at + n) 0) % 256 ≡ getD p (at + n) 0 = omega arith in
     ap₂ (λ (x y : ℕ). be n x ++ (y ∷ [])) q r ∙ ap (λ (l : List ℕ). l ++ (getD p (at + n) 0 ∷ [])) (be-of n p at b)
+
+-- the bytes of a word are those of its two halfwords
+pub two-halves : (x y : ℕ) → y < 65536 → (more : List ℕ) → be 4 (x * 65536 + y) ++ more ≡ be 2 x ++ be 2 y ++ more
+two-halves x y h more =
+    let low : (x * 65536 + y) % 256 ≡ y % 256 = omega arith in
+    let up : (x * 65536 + y) / 256 ≡ x * 256 + y / 256 = omega arith in
+    let up-low : (x * 256 + y / 256) % 256 ≡ y / 256 % 256 = omega arith in
+    let top : (x * 256 + y / 256) / 256 ≡ x = omega arith in
+    rw (low, up, up-low, top)

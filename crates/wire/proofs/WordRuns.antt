@@ -18,7 +18,7 @@ word-bytes-append [] v = refl
 word-bytes-append (w ∷ u) v = rw (word-bytes-append u v) (sym (append-assoc (be 4 w) (wordBytes u) (wordBytes v)))
 
 -- one word more at the end
-word-bytes-more : (ws : List ℕ) (i : ℕ) → i < length ws → wordBytes (take (i + 1) ws) ≡ wordBytes (take i ws) ++ be 4 (getD ws i 0)
+pub word-bytes-more : (ws : List ℕ) (i : ℕ) → i < length ws → wordBytes (take (i + 1) ws) ≡ wordBytes (take i ws) ++ be 4 (getD ws i 0)
 unfolding wordBytes
 word-bytes-more ws i h = rw (add-one i, take-suc ws i 0) (word-bytes-append (take i ws) (getD ws i 0 ∷ []))
 

@@ -1,14 +1,15 @@
 -- Laws of the exclusive or: those that `lib.Bits` does not have, and those of a whole list.
 -- Assumes nothing.
 use mathlib.Core.Path.{_≡_, refl, sym, ap, ap₂, _∙_}
-use mathlib.Core.List.{List, [], _∷_}
+use mathlib.Core.List.{List, [], _∷_, _++_}
 use Prim.Native.Nat.{ℕ, zero, suc, _+_, _*_, _/_, _%_, _<_, _≤_}
 use native.Mathlib.Numerals.{add-one}
 use native.Mathlib.Omega.{arith}
 use lib.Arith.{bin-ind, digits-div, digits-mod}
-use lib.Bits.{bitXor, differ, xor-step, xor-zero-l, xor-zero-r, xor-comm, xor-self}
+use lib.Bits.{bitXor, differ, xor-step, xor-zero-l, xor-zero-r, xor-comm, xor-self, xor-shr, xor-mod}
 use lib.ListN.{length, getD, set, drop, drop-of-length-le}
 use lib.Seq.{drop-cons}
+use Rattle.wire.specs.Bytes.{be}
 use Rattle.wire.specs.Xor.{xorAll}
 
 -- ONE BIT
@@ -58,6 +59,9 @@ xor-twice a b = sym (xor-assoc a a b) ∙ ap (λ (x : ℕ). bitXor x b) (xor-sel
 xor-left-comm : (a b c : ℕ) → bitXor a (bitXor b c) ≡ bitXor b (bitXor a c)
 xor-left-comm a b c = sym (xor-assoc a b c) ∙ ap (λ (x : ℕ). bitXor x c) (xor-comm a b) ∙ xor-assoc b a c
 
+xor-pairs : (a b c d : ℕ) → bitXor (bitXor a b) (bitXor c d) ≡ bitXor (bitXor a c) (bitXor b d)
+xor-pairs a b c d = xor-assoc a b (bitXor c d) ∙ ap (bitXor a) (xor-left-comm b c d) ∙ sym (xor-assoc a c (bitXor b d))
+
 -- LISTS
 
 -- a store takes the old byte out and puts the new one in
@@ -78,3 +82,64 @@ xor-turn s i x h = rw (add-one, drop-cons s i 0) (xor-assoc x (getD s i 0) (xorA
 pub xor-end : (s : List ℕ) (i x : ℕ) → length s ≤ i → bitXor x (xorAll (drop i s)) ≡ x
 unfolding xorAll
 xor-end s i x h = rw (drop-of-length-le s h) (xor-zero-r x)
+
+-- four turns in one, each byte into a number of its own
+module _ (a b c d : ℕ) where
+  abbrev pub lanes : ℕ
+  lanes = bitXor (bitXor (bitXor a b) c) d
+
+  in-order : (p q r t : ℕ) → bitXor (bitXor (bitXor (bitXor lanes p) q) r) t ≡ bitXor lanes (bitXor (bitXor (bitXor p q) r) t)
+  in-order p q r t =
+      ap (λ (x : ℕ). bitXor (bitXor x r) t) (xor-assoc lanes p q)
+      ∙ ap (λ (x : ℕ). bitXor x t) (xor-assoc lanes (bitXor p q) r)
+      ∙ xor-assoc lanes (bitXor (bitXor p q) r) t
+
+  apart : (p q r t : ℕ) → bitXor (bitXor (bitXor (bitXor a p) (bitXor b q)) (bitXor c r)) (bitXor d t) ≡ bitXor (bitXor (bitXor (bitXor lanes p) q) r) t
+  apart p q r t =
+      ap (λ (x : ℕ). bitXor (bitXor x (bitXor c r)) (bitXor d t)) (xor-pairs a p b q)
+      ∙ ap (λ (x : ℕ). bitXor x (bitXor d t)) (xor-pairs (bitXor a b) (bitXor p q) c r)
+      ∙ xor-pairs (bitXor (bitXor a b) c) (bitXor (bitXor p q) r) d t
+      ∙ sym (in-order p q r t)
+
+  pub four-turns : (s : List ℕ) (i : ℕ) → i + 4 ≤ length s
+      → bitXor (bitXor (bitXor (bitXor (bitXor a (getD s i 0)) (bitXor b (getD s (i + 1) 0))) (bitXor c (getD s (i + 2) 0))) (bitXor d (getD s (i + 3) 0))) (xorAll (drop (i + 4) s))
+      ≡ bitXor lanes (xorAll (drop i s))
+  four-turns s i h =
+      let e₁ : i + 1 + 1 ≡ i + 2 = omega arith in
+      let e₂ : i + 2 + 1 ≡ i + 3 = omega arith in
+      let e₃ : i + 3 + 1 ≡ i + 4 = omega arith in
+      let x₁ = bitXor lanes (getD s i 0) in
+      let x₂ = bitXor x₁ (getD s (i + 1) 0) in
+      let x₃ = bitXor x₂ (getD s (i + 2) 0) in
+      let x₄ = bitXor x₃ (getD s (i + 3) 0) in
+      ap (λ (x : ℕ). bitXor x (xorAll (drop (i + 4) s))) (apart (getD s i 0) (getD s (i + 1) 0) (getD s (i + 2) 0) (getD s (i + 3) 0))
+      ∙ ap (λ (k : ℕ). bitXor x₄ (xorAll (drop k s))) (sym e₃)
+      ∙ xor-turn s (i + 3) x₃ (omega arith)
+      ∙ ap (λ (k : ℕ). bitXor x₃ (xorAll (drop k s))) (sym e₂)
+      ∙ xor-turn s (i + 2) x₂ (omega arith)
+      ∙ ap (λ (k : ℕ). bitXor x₂ (xorAll (drop k s))) (sym e₁)
+      ∙ xor-turn s (i + 1) x₁ (omega arith)
+      ∙ xor-turn s i lanes (omega arith)
+
+pub xor-joined : (u v : List ℕ) → xorAll (u ++ v) ≡ bitXor (xorAll u) (xorAll v)
+unfolding xorAll
+xor-joined [] v = sym (xor-zero-l (xorAll v))
+xor-joined (b ∷ u) v = ap (bitXor b) (xor-joined u v) ∙ sym (xor-assoc b (xorAll u) (xorAll v))
+
+-- BYTES OF A NUMBER
+
+-- the lowest byte is last
+xor-last : (n x : ℕ) → xorAll (be (suc n) x) ≡ bitXor (xorAll (be n (x / 256))) (x % 256)
+unfolding xorAll
+xor-last n x = xor-joined (be n (x / 256)) (x % 256 ∷ []) ∙ ap (bitXor (xorAll (be n (x / 256)))) (xor-zero-r (x % 256))
+
+-- of the exclusive or of two numbers, over the width
+pub xor-be : (n a b : ℕ) → xorAll (be n (bitXor a b)) ≡ bitXor (xorAll (be n a)) (xorAll (be n b))
+unfolding xorAll
+xor-be zero a b = refl
+xor-be (suc n) a b =
+    xor-last n (bitXor a b)
+    ∙ ap₂ (λ (x y : ℕ). bitXor (xorAll (be n x)) y) (xor-shr a b 8) (xor-mod a b 8)
+    ∙ ap (λ (x : ℕ). bitXor x (bitXor (a % 256) (b % 256))) (xor-be n (a / 256) (b / 256))
+    ∙ xor-pairs (xorAll (be n (a / 256))) (xorAll (be n (b / 256))) (a % 256) (b % 256)
+    ∙ sym (ap₂ (λ (x y : ℕ). bitXor x y) (xor-last n a) (xor-last n b))

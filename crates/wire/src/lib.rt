@@ -1,9 +1,10 @@
-// Numbers in bytes, big-endian, and the exclusive or. Every function is total: a byte past the end reads as 0, and a store there does nothing.
+// Numbers in bytes, big-endian, and the exclusive or. Every public function is total: a byte past the end reads as 0, and words that do not all fit are not written.
 ghost use mathlib.Core.Path.{_≡_};
-ghost use Prim.Native.Nat.{_<_};
-ghost use lib.ListN.{getD, set};
-ghost use lib.Seq.{sets};
-ghost use Rattle.wire.specs.Bytes.{be, beAt};
+ghost use mathlib.Core.List.{reverse};
+ghost use Prim.Native.Nat.{_+_, _*_, _≤_, _<_};
+ghost use lib.ListN.{length, getD};
+ghost use Rattle.lists.specs.Splice.{splice};
+ghost use Rattle.wire.specs.Bytes.{be, beAt, wordBytes};
 ghost use Rattle.wire.specs.Xor.{xorAll};
 ghost use Rattle.wire.specs.ByByte.{ByByte};
 
@@ -43,40 +44,79 @@ pub fn get32(p: &[u8], at: u16) -> u32
     (high * 256 + wide32(byte_at(p, i + 2))) * 256 + wide32(byte_at(p, i + 3))
 }
 
-pub fn put8(b: &mut [u8], at: usize, x: u8)
-    ensures { λ _. ⌜ now (b .exit) ≡ set (now (b .entry)) at x ⌝ }
+// The bytes of a word in the other order.
+fn swapped(x: u32) -> u32
+    ensures { λ r. ⌜ reverse (be 4 r) ≡ be 4 x ⌝ }
 {
-    if at < b.len() {
-        b[at] = x;
+    x % 256 * 16777216
+        + x / 256 % 256 * 65536
+        + x / 256 / 256 % 256 * 256
+        + x / 256 / 256 / 256 % 256
+}
+
+// One word. It is turned round first and then stored lowest byte first: of that the compiler makes one swap and one store.
+fn put_word(b: &mut [u8], at: usize, x: u32)
+    requires { ⌜ at + 4 ≤ length (now b) ⌝ }
+    ensures { λ _. ⌜ now (b .exit) ≡ splice (now (b .entry)) at (be 4 x) ⌝ }
+{
+    let s = swapped(x);
+    b[at] = (s % 256) as u8;
+    b[at + 1] = (s / 256 % 256) as u8;
+    b[at + 2] = (s / 256 / 256 % 256) as u8;
+    b[at + 3] = (s / 256 / 256 / 256 % 256) as u8;
+}
+
+fn put_run(b: &mut [u8], at: usize, words: &[u32])
+    requires { ⌜ at + 4 * length (now words) ≤ length (now b) ⌝ }
+    ensures { λ _. ⌜ now (b .exit) ≡ splice (now (b .entry)) at (wordBytes (now (words .entry))) ⌝ }
+{
+    let mut i = 0;
+    while i < words.len() {
+        put_word(b, at + 4 * i, words[i]);
+        i += 1;
     }
 }
 
-// The two bytes of a number from index `at` on.
-pub fn put16(b: &mut [u8], at: u16, x: u16)
-    ensures { λ _. ⌜ now (b .exit) ≡ sets (now (b .entry)) at (be 2 x) ⌝ }
+// The bytes of the words from index `at` on. Where they do not all fit, nothing is written.
+pub fn put_words(b: &mut [u8], at: usize, words: &[u32])
+    ensures { λ _. ⌜
+        (at + 4 * length (now (words .entry)) ≤ length (now (b .entry)) → now (b .exit) ≡ splice (now (b .entry)) at (wordBytes (now (words .entry))))
+        × (length (now (b .entry)) < at + 4 * length (now (words .entry)) → now (b .exit) ≡ now (b .entry)) ⌝ }
 {
-    let i = at as usize;
-    put8(b, i, (x / 256 % 256) as u8);
-    put8(b, i + 1, (x % 256) as u8);
+    if b.len() < at {
+        return;
+    }
+    if (b.len() - at) / 4 < words.len() {
+        return;
+    }
+    put_run(b, at, words);
 }
 
-// The four bytes of a number from index `at` on.
-pub fn put32(b: &mut [u8], at: u16, x: u32)
-    ensures { λ _. ⌜ now (b .exit) ≡ sets (now (b .entry)) at (be 4 x) ⌝ }
+// The exclusive or of the four bytes of a word.
+pub fn xor_word(x: u32) -> u8
+    ensures { λ r. ⌜ r ≡ xorAll (be 4 x) ⌝ }
 {
-    let i = at as usize;
-    put8(b, i, (x / 256 / 256 / 256 % 256) as u8);
-    put8(b, i + 1, (x / 256 / 256 % 256) as u8);
-    put8(b, i + 2, (x / 256 % 256) as u8);
-    put8(b, i + 3, (x % 256) as u8);
+    let low = ((x / 256 % 256) as u8) ^ ((x % 256) as u8);
+    ((x / 256 / 256 / 256 % 256) as u8) ^ (((x / 256 / 256 % 256) as u8) ^ low)
 }
 
-// The exclusive or of all bytes.
+// The exclusive or of all bytes. Four at a time, each into a number of its own, is quicker on a packet of some ten bytes.
 pub fn xor_all(s: &[u8]) -> u8
     ensures { λ r. ⌜ r ≡ xorAll (now (s .entry)) ⌝ }
 {
-    let mut x: u8 = 0;
+    let mut a: u8 = 0;
+    let mut b: u8 = 0;
+    let mut c: u8 = 0;
+    let mut d: u8 = 0;
     let mut i = 0;
+    while 4 <= s.len() - i {
+        a = a ^ s[i];
+        b = b ^ s[i + 1];
+        c = c ^ s[i + 2];
+        d = d ^ s[i + 3];
+        i += 4;
+    }
+    let mut x = a ^ b ^ c ^ d;
     while i < s.len() {
         x = x ^ s[i];
         i += 1;

@@ -3,7 +3,7 @@
 use Prim.Native.Nat.{_+_, _*_, _-_}
 use native.Mathlib.Omega.{arith}
 use Rattle.wire.specs.Bytes.{wordBytes}
-use Rattle.bulk.proofs.Packet.{two-halves}
+use Rattle.wire.proofs.Numbers.{two-halves}
 use borrow.Author.Needs.{needs}
 use Rattle.bulk.proofs.head_words.Statement.{statement}
 use Rattle.bulk.proofs.head_words.Tie as tie

@@ -23,18 +23,10 @@ slice-aggregate-put-words : tie.Need-slice-aggregate-put-words
 slice-aggregate-put-words c = search needs
 
 put-words-requires : tie.Need-put-words-requires
-put-words-requires c κs =
-    let at-fits = c .before .before .before in
-    let start = at-fits .before .before .before .before in
-    let fits = test-fits (start .args .f) (start .args .words .now) (start .args .buffer .now) (at-fits .before .packet-fits .ensures) (at-fits .if1 .left) in
-    omega (arith, fits .room)
+put-words-requires c κs = search needs
 
 put-words-requires-2 : tie.Need-put-words-requires-2
-put-words-requires-2 c κs =
-    let at-fits = c .before .before .before .before .before .before .before in
-    let start = at-fits .before .before .before .before in
-    let fits = test-fits (start .args .f) (start .args .words .now) (start .args .buffer .now) (at-fits .before .packet-fits .ensures) (at-fits .if1 .left) in
-    omega (arith, fits .room)
+put-words-requires-2 c κs = search needs
 
 same-length : tie.Need-same-length
 same-length c = search needs
@@ -47,7 +39,8 @@ returns-2 c =
     let at-fits = at-head .before in
     let start = at-fits .before .before .before .before in
     let fits = test-fits (start .args .f) (start .args .words .now) (start .args .buffer .now) (at-fits .before .packet-fits .ensures) (at-fits .if1 .left) in (
-      λ h. head-then-words _ _ _ _ _ _ h (at-head .head-words .ensures) (at-header .put-words .ensures) (at-words .put-words2 .ensures),
+      λ h. head-then-words _ _ _ _ _ _ h (at-head .head-words .ensures) (at-header .put-words .ensures .0 (omega (arith, fits .room)))
+          (at-words .put-words2 .ensures .0 (omega (arith, fits .room))),
       λ none. absurd (none fits),
     )
 

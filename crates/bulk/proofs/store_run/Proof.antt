@@ -13,10 +13,10 @@ use Rattle.bulk.proofs.store_run.Statement.{statement}
 use Rattle.bulk.proofs.store_run.Tie as tie
 
 abbrev Inv-loop : tie.InvT-loop
-Inv-loop image₀ packet n from i₀ image i = (i ≤ n) × (image ≡ splice image₀ from (take i (dataWords packet))) × (length image ≡ length image₀)
+Inv-loop words₀ from packet n i₀ words i = (i ≤ n) × (words ≡ splice words₀ from (take i (dataWords packet))) × (length words ≡ length words₀)
 
 abbrev μ-loop : tie.MeasureT-loop
-μ-loop image₀ packet n from i₀ image i = n - i
+μ-loop words₀ from packet n i₀ words i = n - i
 
 loop-holds : tie.Need-loop-holds Inv-loop μ-loop
 loop-holds c = (search needs, sym (splice-none _ _), search needs)
@@ -30,14 +30,14 @@ add-word-at c = search needs
 word-at-requires : tie.Need-word-at-requires Inv-loop μ-loop
 word-at-requires c κs = search needs
 
-add-image : tie.Need-add-image Inv-loop μ-loop
-add-image c = search needs
+add-words : tie.Need-add-words Inv-loop μ-loop
+add-words c = search needs
 
-mul-image : tie.Need-mul-image Inv-loop μ-loop
-mul-image c = search needs
+mul-words : tie.Need-mul-words Inv-loop μ-loop
+mul-words c = search needs
 
-slice-write-image : tie.Need-slice-write-image Inv-loop μ-loop
-slice-write-image c = search needs
+slice-write-words : tie.Need-slice-write-words Inv-loop μ-loop
+slice-write-words c = search needs
 
 add-i : tie.Need-add-i Inv-loop μ-loop
 add-i c = search needs
@@ -53,7 +53,7 @@ loop-again c =
     let p = start .args .packet .now in
     let k : i < length (dataWords p) = omega (arith, words-at-length 11 p 16) in
     let w : c .word-at .result ≡ getD (dataWords p) i 0 = c .word-at .ensures ∙ sym (words-at-word 11 p 16 i (omega arith)) in
-    (search needs, rw w (copy-turn (start .args .image .now) (at-loop .loop .image) (dataWords p) (start .args .at .0) i k (omega arith) (at-loop .loop .inv .1)), search needs)
+    (search needs, rw w (copy-turn (start .args .words .now) (at-loop .loop .words) (dataWords p) (start .args .from) i k (omega arith) (at-loop .loop .inv .1)), search needs)
 
 same-length : tie.Need-same-length Inv-loop μ-loop
 same-length c = search needs
@@ -74,9 +74,9 @@ store-run-spec =
     mul-word-at
     add-word-at
     word-at-requires
-    add-image
-    mul-image
-    slice-write-image
+    add-words
+    mul-words
+    slice-write-words
     add-i
     loop-less
     loop-again

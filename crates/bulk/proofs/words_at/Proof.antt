@@ -1,9 +1,8 @@
 -- `bulk::words_at` meets its contract.
 -- Assumes nothing.
-use mathlib.Core.Path.{_≡_, refl, ap}
-use Prim.Native.Nat.{ℕ, _+_, _-_}
+use mathlib.Core.Path.{_≡_, refl}
+use Prim.Native.Nat.{_+_, _-_}
 use native.Mathlib.Omega.{arith}
-use lib.ListN.{take, drop}
 use borrow.Author.Tests.{not-true, not-false}
 use borrow.Author.Needs.{needs}
 use Rattle.bulk.proofs.words_at.Statement.{statement}
@@ -44,10 +43,8 @@ returns-2 c =
     let at-test = c .before in
     let start = at-test .before .before .before in
     let from = start .args .at .0 in
-    let n : from + start .args .n - from ≡ start .args .n = omega arith in (
-      λ h. ap (λ (k : ℕ). take k (drop from (start .args .image .now))) n,
-      λ none. absurd (none (at-test .before .has-words .ensures .0 (not-false _ (at-test .if1 .left)))),
-    )
+    let n : from + start .args .n - from ≡ start .args .n = omega arith in
+    (λ h. rw n, λ none. absurd (none (at-test .before .has-words .ensures .0 (not-false _ (at-test .if1 .left)))))
 
 pub words-at-spec : {M : Type 1} → statement M
 words-at-spec =

@@ -8,8 +8,8 @@ use Rattle.capi.proofs.lg_read_command.Tie as tie
 returns : tie.Need-returns
 returns c = command-other _ _ (c .if1 .taken)
 
-read-command-requires : tie.Need-read-command-requires
-read-command-requires c κs = search needs
+reading-of-requires : tie.Need-reading-of-requires
+reading-of-requires c κs = search needs
 
 enum-known-reading : tie.Need-enum-known-reading
 enum-known-reading c = search needs
@@ -18,7 +18,7 @@ refusal-number-requires : tie.Need-refusal-number-requires
 refusal-number-requires c κs = search needs
 
 returns-2 : tie.Need-returns-2
-returns-2 c = command-unread _ _ (c .before .before .before .before .before .before .if1 .left) _ (c .before .before .before .before .before .read-command .ensures) _ (c .before .before .reading .given .1) _ (c .refusal-number .ensures)
+returns-2 c = command-unread _ _ (c .before .before .before .before .before .if1 .left) _ (c .before .before .before .before .reading-of .ensures) _ (c .before .before .reading .given .1) _ (c .refusal-number .ensures)
 
 enum-known-reading-2 : tie.Need-enum-known-reading-2
 enum-known-reading-2 c = search needs
@@ -26,44 +26,46 @@ enum-known-reading-2 c = search needs
 head-words-requires : tie.Need-head-words-requires
 head-words-requires c κs = search needs
 
-slice-aggregate-put-words : tie.Need-slice-aggregate-put-words
-slice-aggregate-put-words c = search needs
+slice-aggregate-put-run : tie.Need-slice-aggregate-put-run
+slice-aggregate-put-run c = search needs
 
-put-words-requires : tie.Need-put-words-requires
-put-words-requires c κs = search needs
+put-run-requires : tie.Need-put-run-requires
+put-run-requires c κs = search needs
 
-slice-aggregate-put-words-2 : tie.Need-slice-aggregate-put-words-2
-slice-aggregate-put-words-2 c = search needs
+sub-put-beside : tie.Need-sub-put-beside
+sub-put-beside c = search needs
 
-put-words-requires-2 : tie.Need-put-words-requires-2
-put-words-requires-2 c κs = search needs
+part-put-beside-start : tie.Need-part-put-beside-start
+part-put-beside-start c = search needs
+
+part-put-beside-end : tie.Need-part-put-beside-end
+part-put-beside-end c = search needs
+
+put-beside-requires : tie.Need-put-beside-requires
+put-beside-requires c κs = search needs
 
 same-length : tie.Need-same-length
 same-length c = search needs
 
 returns-3 : tie.Need-returns-3
-returns-3 c =
-    let at-second = c .before .before in
-    let at-first = at-second .before .before .before .before .before in
-    let at-head = at-first .before .before .before in
-    let at-reading = at-head .before .before in
-    let at-read = at-reading .before .before .before in
-    command-done _ _ (at-read .before .if1 .left) _ (at-read .read-command .ensures) _ (at-reading .reading2 .given .1) _ (at-head .head-words .ensures) _ (at-first .put-words .ensures .0) _ (at-second .put-words2 .ensures .0)
+returns-3 c = command-done _ _ (c .before .before .before .before .before .before .before .before .before .before .before .before .before .before .if1 .left) _ (c .before .before .before .before .before .before .before .before .before .before .before .before .before .reading-of .ensures) _ (c .before .before .before .before .before .before .before .before .before .before .before .reading2 .given .1) _ (c .before .before .before .before .before .before .before .before .before .head-words .ensures) _ (c .before .before .before .before .before .before .put-run .ensures .0) _ (c .before .before .put-beside .ensures .0)
 
 pub lg-read-command-spec : {M : Type 1} → statement M
 lg-read-command-spec =
     tie.close
     (tie.spec
     returns
-    read-command-requires
+    reading-of-requires
     enum-known-reading
     refusal-number-requires
     returns-2
     enum-known-reading-2
     head-words-requires
-    slice-aggregate-put-words
-    put-words-requires
-    slice-aggregate-put-words-2
-    put-words-requires-2
+    slice-aggregate-put-run
+    put-run-requires
+    sub-put-beside
+    part-put-beside-start
+    part-put-beside-end
+    put-beside-requires
     same-length
     returns-3)

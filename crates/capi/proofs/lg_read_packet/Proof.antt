@@ -27,11 +27,11 @@ enum-known-reading-2 c = search needs
 field-words-requires : tie.Need-field-words-requires
 field-words-requires c κs = search needs
 
-slice-aggregate-put-words : tie.Need-slice-aggregate-put-words
-slice-aggregate-put-words c = search needs
+slice-aggregate-put-run : tie.Need-slice-aggregate-put-run
+slice-aggregate-put-run c = search needs
 
-put-words-requires : tie.Need-put-words-requires
-put-words-requires c κs = search needs
+put-run-requires : tie.Need-put-run-requires
+put-run-requires c κs = search needs
 
 mul-bytes : tie.Need-mul-bytes
 mul-bytes c =
@@ -48,7 +48,7 @@ returns-3 c =
     let at-words = at-put .before .before .before in
     let at-reading = at-words .before .before in
     let at-read = at-reading .before .before in
-    packet-done _ _ (at-read .before .if1 .left) _ (at-read .read-packet .ensures) _ (at-reading .reading2 .given .1) _ (at-words .field-words .ensures) _ (at-put .put-words .ensures .0)
+    packet-done _ _ (at-read .before .if1 .left) _ (at-read .read-packet .ensures) _ (at-reading .reading2 .given .1) _ (at-words .field-words .ensures) _ (at-put .put-run .ensures .0)
 
 pub lg-read-packet-spec : {M : Type 1} → statement M
 lg-read-packet-spec =
@@ -61,8 +61,8 @@ lg-read-packet-spec =
     returns-2
     enum-known-reading-2
     field-words-requires
-    slice-aggregate-put-words
-    put-words-requires
+    slice-aggregate-put-run
+    put-run-requires
     mul-bytes
     same-length
     returns-3)

@@ -1,7 +1,6 @@
 -- `capi::lg_write_command` meets its contract.
 -- Assumes nothing.
-use native.Mathlib.Omega.{arith}
-use Rattle.capi.proofs.Writing.{answer-most, write-other, write-unknown, write-done}
+use Rattle.capi.proofs.Writing.{write-other, write-unknown, write-done}
 use borrow.Author.Needs.{needs}
 use Rattle.capi.proofs.lg_write_command.Statement.{statement}
 use Rattle.capi.proofs.lg_write_command.Tie as tie
@@ -24,34 +23,26 @@ enum-known-decoded c = search needs
 header-in-requires : tie.Need-header-in-requires
 header-in-requires c κs = search needs
 
-data-in-requires : tie.Need-data-in-requires
-data-in-requires c κs = search needs
+sub-write-packet : tie.Need-sub-write-packet
+sub-write-packet c = search needs
 
-write-command-requires : tie.Need-write-command-requires
-write-command-requires c κs = search needs
+part-write-packet-start : tie.Need-part-write-packet-start
+part-write-packet-start c = search needs
 
-answer-length-requires : tie.Need-answer-length-requires
-answer-length-requires c κs = search needs
+part-write-packet-end : tie.Need-part-write-packet-end
+part-write-packet-end c = search needs
 
-cast-bytes : tie.Need-cast-bytes
-cast-bytes c =
-    let low = answer-most _ _ _ _ _ (c .before .before .before .write-command .ensures .0) in
-    let e = c .answer-length .ensures in
-    omega arith
+write-packet-requires : tie.Need-write-packet-requires
+write-packet-requires c κs = search needs
 
-answer-number-requires : tie.Need-answer-number-requires
-answer-number-requires c κs = search needs
+hand-over-requires : tie.Need-hand-over-requires
+hand-over-requires c κs = search needs
 
 same-length : tie.Need-same-length
 same-length c = search needs
 
 returns-3 : tie.Need-returns-3
-returns-3 c =
-    let at-write = c .before .before .before .before in
-    let at-data = at-write .before .before .before in
-    let at-decoded = at-data .before .before .before in
-    let at-command = at-decoded .before .before in
-    write-done _ _ (at-command .before .if1 .left) _ (at-command .command-in .ensures) _ (at-decoded .decoded .given .1) _ (at-data .before .header-in .ensures) _ (at-data .data-in .ensures) _ _ (at-write .write-command .ensures) _ (c .before .answer-length .ensures) _ (c .answer-number .ensures)
+returns-3 c = write-done _ _ (c .before .before .before .before .before .before .before .before .before .before .before .before .if1 .left) _ (c .before .before .before .before .before .before .before .before .before .before .before .command-in .ensures) _ (c .before .before .before .before .before .before .before .before .before .decoded .given .1) _ (c .before .before .before .before .before .before .before .header-in .ensures) _ _ (c .before .before .before .before .write-packet .ensures) _ _ (c .hand-over .ensures)
 
 pub lg-write-command-spec : {M : Type 1} → statement M
 lg-write-command-spec =
@@ -63,10 +54,10 @@ lg-write-command-spec =
     returns-2
     enum-known-decoded
     header-in-requires
-    data-in-requires
-    write-command-requires
-    answer-length-requires
-    cast-bytes
-    answer-number-requires
+    sub-write-packet
+    part-write-packet-start
+    part-write-packet-end
+    write-packet-requires
+    hand-over-requires
     same-length
     returns-3)

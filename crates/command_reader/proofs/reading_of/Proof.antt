@@ -1,48 +1,20 @@
 -- `command_reader::reading_of` meets its contract.
 -- Assumes nothing.
-use Prim.Native.Nat.{ℕ, _%_}
-use mathlib.Core.Path.{sym, ap, _∙_}
-use borrow.Author.Tests.{not-true, not-false}
-use Rattle.command_reader.proofs.Steps.{malformed, other-apid, by-function-code}
+use mathlib.Core.Path.{ap, _∙_}
+use Rattle.packet.specs.Frame.{frameOf}
+use Rattle.command_reader.proofs.Steps.{read-by-own-unit}
 use borrow.Author.Needs.{needs}
 use Rattle.command_reader.proofs.reading_of.Statement.{statement}
 use Rattle.command_reader.proofs.reading_of.Tie as tie
 
-well-formed-requires : tie.Need-well-formed-requires
-well-formed-requires c κs = search needs
+unit-of-requires : tie.Need-unit-of-requires
+unit-of-requires c κs = search needs
+
+frame-requires : tie.Need-frame-requires
+frame-requires c κs = search needs
 
 returns : tie.Need-returns
-returns c = malformed _ (sym (c .before .well-formed .ensures) ∙ not-true _ (c .if1 .taken))
-
-get16-requires : tie.Need-get16-requires
-get16-requires c κs = search needs
-
-returns-2 : tie.Need-returns-2
-returns-2 c = other-apid _ (sym (c .before .before .before .well-formed .ensures) ∙ not-false _ (c .before .before .if1 .left)) (λ e. c .if2 .taken (ap (λ (x : ℕ). x % 2048) (c .before .get16 .ensures) ∙ e))
-
-byte-at-requires : tie.Need-byte-at-requires
-byte-at-requires c κs = search needs
-
-by-code-requires : tie.Need-by-code-requires
-by-code-requires c κs = search needs
-
-returns-3 : tie.Need-returns-3
-returns-3 c =
-    let at-byte = c .before in
-    let at-apid = at-byte .before .before in
-    let at-formed = at-apid .before .before in
-    rw (c .by-code .ensures, at-byte .byte-at .ensures)
-    (by-function-code _ (sym (at-formed .well-formed .ensures) ∙ not-false _ (at-apid .before .if1 .left))
-    (sym (ap (λ (x : ℕ). x % 2048) (at-apid .get16 .ensures)) ∙ at-byte .before .if2 .left))
+returns c = c .frame .ensures ∙ ap (frameOf _) (c .before .unit-of .ensures) ∙ read-by-own-unit _
 
 pub reading-of-spec : {M : Type 1} → statement M
-reading-of-spec =
-    tie.close
-    (tie.spec
-    well-formed-requires
-    returns
-    get16-requires
-    returns-2
-    byte-at-requires
-    by-code-requires
-    returns-3)
+reading-of-spec = tie.close (tie.spec unit-of-requires frame-requires returns)

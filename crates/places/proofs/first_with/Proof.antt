@@ -7,16 +7,16 @@ use native.Mathlib.Omega.{arith}
 use borrow.Author.Needs.{needs}
 use Rattle.lists.specs.Below.{anyBelow}
 use Rattle.rules.specs.States.{contextAt, busyWith}
-use Rattle.rules.specs.Commands.{firstWith}
+use Rattle.places.specs.Turns.{firstWithin}
 use Rattle.places.proofs.Steps.{go-on, stop-here, none-left}
 use Rattle.places.proofs.first_with.Statement.{statement}
 use Rattle.places.proofs.first_with.Tie as tie
 
 abbrev Inv-loop : tie.InvT-loop
-Inv-loop ps t i₀ i = (i ≤ 4) × (anyBelow (λ j. busyWith t (contextAt ps j)) i ≡ false)
+Inv-loop ps t k i₀ i = (i ≤ k) × (anyBelow (λ j. busyWith t (contextAt ps j)) i ≡ false)
 
 abbrev μ-loop : tie.MeasureT-loop
-μ-loop ps t i₀ i = 4 - i
+μ-loop ps t k i₀ i = k - i
 
 loop-holds : tie.Need-loop-holds Inv-loop μ-loop
 loop-holds c = (omega arith, refl)
@@ -25,8 +25,8 @@ with-at-requires : tie.Need-with-at-requires Inv-loop μ-loop
 with-at-requires c κs = search needs
 
 returns : tie.Need-returns Inv-loop μ-loop
-unfolding firstWith
-returns c = let l = c .before .before .before .loop in stop-here _ (l .i) (l .inv .1) 4 (omega arith) (sym (c .before .with-at .ensures) ∙ c .if1 .taken)
+unfolding firstWithin
+returns c = let l = c .before .before .before .loop in stop-here _ (l .i) (l .inv .1) _ (c .before .before .loop-test .taken) (sym (c .before .with-at .ensures) ∙ c .if1 .taken)
 
 add-i : tie.Need-add-i Inv-loop μ-loop
 add-i c = omega arith
@@ -38,8 +38,8 @@ loop-again : tie.Need-loop-again Inv-loop μ-loop
 loop-again c = let l = c .before .before .before .loop in (omega arith, go-on _ (l .i) (l .inv .1) (sym (c .before .with-at .ensures) ∙ c .if1 .left))
 
 returns-2 : tie.Need-returns-2 Inv-loop μ-loop
-unfolding firstWith
-returns-2 c = let l = c .before .loop in none-left _ (l .i) (l .inv .1) 4 (omega arith)
+unfolding firstWithin
+returns-2 c = let l = c .before .loop in none-left _ (l .i) (l .inv .1) (c .before .before .args .k) (omega arith)
 
 pub first-with-spec : {M : Type 1} → statement M
 first-with-spec =

@@ -2,13 +2,13 @@
 -- Assumes nothing.
 use Prim.Native.Nat.{_≤_, _-_}
 use mathlib.Core.Bool.{false}
-use mathlib.Core.Path.{_≡_, refl, sym, _∙_}
+use mathlib.Core.Path.{_≡_, refl}
 use native.Mathlib.Omega.{arith}
 use borrow.Author.Needs.{needs}
 use Rattle.lists.specs.Below.{anyBelow}
 use Rattle.rules.specs.States.{contextAt}
 use Rattle.rules.specs.Slots.{isBusy, placeAfter}
-use Rattle.places.proofs.Steps.{go-on, stop-at, all-idle}
+use Rattle.places.proofs.Steps.{stop-at, go-round, all-idle}
 use Rattle.places.proofs.next_place.Statement.{statement}
 use Rattle.places.proofs.next_place.Tie as tie
 
@@ -27,11 +27,11 @@ loop-holds c = (omega arith, refl)
 add-at : tie.Need-add-at Inv-loop μ-loop
 add-at c = omega arith
 
-busy-at-requires : tie.Need-busy-at-requires Inv-loop μ-loop
-busy-at-requires c κs = search needs
+idle-at-requires : tie.Need-idle-at-requires Inv-loop μ-loop
+idle-at-requires c κs = search needs
 
 returns : tie.Need-returns Inv-loop μ-loop
-returns c = let l = c .before .before .before .loop in stop-at _ _ (l .k) (l .inv .1) (omega arith) (sym (c .before .busy-at .ensures) ∙ c .if1 .taken)
+returns c = let l = c .before .before .before .loop in stop-at _ _ (l .k) (l .inv .1) _ (c .before .idle-at .ensures) (omega arith) (c .if1 .taken)
 
 add-k : tie.Need-add-k Inv-loop μ-loop
 add-k c = omega arith
@@ -40,7 +40,10 @@ loop-less : tie.Need-loop-less Inv-loop μ-loop
 loop-less c = omega arith
 
 loop-again : tie.Need-loop-again Inv-loop μ-loop
-loop-again c = let l = c .before .before .before .loop in (omega arith, go-on _ (l .k) (l .inv .1) (sym (c .before .busy-at .ensures) ∙ c .if1 .left))
+loop-again c =
+    let l = c .before .before .before .loop in
+    let a = c .before .before .before .before .args in
+    (omega arith, go-round (a .ps) (a .last) (l .k) (l .inv .1) _ (c .before .idle-at .ensures) (c .if1 .left))
 
 add-result : tie.Need-add-result Inv-loop μ-loop
 add-result c = omega arith
@@ -57,7 +60,7 @@ next-place-spec =
     add-from
     loop-holds
     add-at
-    busy-at-requires
+    idle-at-requires
     returns
     add-k
     loop-less

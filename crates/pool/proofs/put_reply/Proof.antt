@@ -1,33 +1,37 @@
 -- `pool::put_reply` meets its contract.
 -- Assumes nothing.
-use Prim.Native.Nat.{_%_}
-use Rattle.pool.proofs.ReplyBytes.{reply-put}
+use native.Mathlib.Omega.{arith}
+use mathlib.Core.Path.{ap, _∙_}
+use Rattle.lists.specs.Splice.{splice}
 use borrow.Author.Needs.{needs}
 use Rattle.pool.proofs.put_reply.Statement.{statement}
 use Rattle.pool.proofs.put_reply.Tie as tie
 
-put-header-requires : tie.Need-put-header-requires
-put-header-requires c κs = search needs
+reply-words-requires : tie.Need-reply-words-requires
+reply-words-requires c κs = search needs
 
-put-subject-requires : tie.Need-put-subject-requires
-put-subject-requires c κs = search needs
+slice-aggregate-put-words : tie.Need-slice-aggregate-put-words
+slice-aggregate-put-words c = search needs
 
-put-figures-requires : tie.Need-put-figures-requires
-put-figures-requires c κs = search needs
+put-words-requires : tie.Need-put-words-requires
+put-words-requires c κs = search needs
 
 same-length : tie.Need-same-length
 same-length c = search needs
 
 returns : tie.Need-returns
 returns c =
-    let figures = c .before .before in
-    let subject = figures .before .before .before .before in
-    let header = subject .before .before .before .before in
-    let a = header .before .before .before .args in
-    reply-put (a .reply .now) (a .count % 16384) (a .unit % 16) (a .transaction % 4096) (a .pool) (a .f) (header .put-header .ensures)
-    (subject .put-subject .ensures) (figures .put-figures .ensures)
+    let put = c .before .before in
+    let words = put .before .before .before in
+    let reply = words .before .before .args .reply .now in
+    (λ h. put .put-words .ensures .0 (omega arith) ∙ ap (splice reply 0) (words .reply-words .ensures), λ s. put .put-words .ensures .1 (omega arith))
 
 pub put-reply-spec : {M : Type 1} → statement M
 put-reply-spec =
     tie.close
-    (tie.spec put-header-requires put-subject-requires put-figures-requires same-length returns)
+    (tie.spec
+    reply-words-requires
+    slice-aggregate-put-words
+    put-words-requires
+    same-length
+    returns)

@@ -1,0 +1,46 @@
+-- `decide::send` meets its contract.
+-- Assumes nothing.
+use borrow.Author.Needs.{needs}
+use Rattle.decide.proofs.send.Statement.{statement}
+use Rattle.decide.proofs.send.Tie as tie
+
+enum-told : tie.Need-enum-told
+enum-told c = search needs
+
+enum-known-found : tie.Need-enum-known-found
+enum-known-found c = search needs
+
+address-after-requires : tie.Need-address-after-requires
+address-after-requires c κs = search needs
+
+packet-words-requires : tie.Need-packet-words-requires
+packet-words-requires c κs = search needs
+
+cast-word-after : tie.Need-cast-word-after
+cast-word-after c = search needs
+
+word-after-requires : tie.Need-word-after-requires
+word-after-requires c κs = search needs
+
+after-packet-requires : tie.Need-after-packet-requires
+after-packet-requires c κs = search needs
+
+returns : tie.Need-returns
+returns c = rw (c .enum-told .given .1)
+
+returns-2 : tie.Need-returns-2
+returns-2 c = rw (c .before .before .before .before .before .before .before .before .found .given .1, ← c .before .before .before .before .address-after .ensures, ← c .before .before .before .packet-words .ensures, ← c .before .word-after .ensures, ← c .after-packet .ensures)
+
+pub send-spec : {M : Type 1} → statement M
+send-spec =
+    tie.close
+    (tie.spec
+    enum-told
+    enum-known-found
+    address-after-requires
+    packet-words-requires
+    cast-word-after
+    word-after-requires
+    after-packet-requires
+    returns
+    returns-2)

@@ -1,0 +1,156 @@
+-- The command call as a decision on facts: what each decision is, by the facts, and its number and effect in every case.
+use mathlib.Core.Path.{_≡_}
+use mathlib.Core.Bool.{_&&_, cond}
+use mathlib.Core.List.{List}
+use Prim.Native.Nat.{ℕ, _+_, _%_}
+use lib.Dec.{leb, ltb, eqb}
+use lib.ListN.{length, take, drop}
+use Rattle.lists.specs.Splice.{splice}
+use Rattle.rules.specs.Regions.{imageLength}
+use Rattle.rules.specs.States.{poolAt, goodState}
+use Rattle.rules.specs.Packets.{dataWords, requested, commandTransaction}
+use Rattle.rules.specs.Pools.{blocksOf}
+use Rattle.rules.specs.Results.{counted}
+use Rattle.rules.specs.Commands.{CommandArgs, Outcome, changed, acceptedMore, refusedMore, firstIdle, firstWith, setContext, newDump, commandCall}
+use Rattle.rules.specs.declared.ActiveDump.{ActiveDump}
+use Rattle.rules.specs.declared.Answer.{Answer}
+use Rattle.rules.specs.declared.Answer.the-variants.{Refused, Done}
+use Rattle.rules.specs.declared.Command.{Command}
+use Rattle.rules.specs.declared.Command.the-variants.{Dump, Cancel, Load, PoolStatistics}
+use Rattle.rules.specs.declared.Context.the-variants.{Idle, Busy}
+use Rattle.rules.specs.declared.Header.{Header}
+use Rattle.rules.specs.declared.Range.{Range}
+use Rattle.rules.specs.declared.Reading.{Reading}
+use Rattle.rules.specs.declared.Reading.the-variants.{Unread, Read}
+use Rattle.rules.specs.declared.Refusal.{Refusal}
+use Rattle.rules.specs.declared.Refusal.the-variants.{BadState, ImageLength, BufferLength, OutsideRegions, NoRight, TransactionBusy, PlacesBusy, NotBusy, PoolDamaged}
+use Rattle.rules.specs.declared.Request.{Request}
+use Rattle.rules.specs.declared.State.{State}
+use Rattle.rules.specs.declared.Verdict.{Verdict}
+use Rattle.rules.specs.declared.Verdict.the-variants.{Accepted, Rejected}
+use Rattle.packet.specs.Frame.{frameOf}
+use Rattle.pool.specs.Answers.{walkedOf, figureBytes}
+use Rattle.pool.specs.declared.Walked.{Walked}
+use Rattle.pool.specs.declared.Walked.the-variants.{Damaged, Whole}
+use Rattle.regions.specs.Lookup.{findRegion}
+use Rattle.regions.specs.declared.Found.{Found}
+use Rattle.regions.specs.declared.Found.the-variants.{Missed, At}
+use Rattle.decide.specs.declared.Decision.{Decision}
+use Rattle.decide.specs.declared.Decision.the-variants.{Refuse, Dump as Placed, Cancel as Freed, Load as Stored, Reply}
+
+-- NUMBERS 1 TO 9
+
+-- 1 to 3, where a good state's image has `words` words and `words` is 0 of a state that is not good
+abbrev pub lentBy : ℕ → ℕ → ℕ → ℕ → Verdict
+lentBy words image size buffer =
+    cond (eqb words 0) (Rejected BadState)
+    (cond (eqb image words) (cond (ltb buffer size) (Rejected BufferLength) Accepted) (Rejected ImageLength))
+
+abbrev pub openedAs : Verdict → List ℕ → ℕ → Reading
+openedAs (Rejected r) p unit = Unread r
+openedAs Accepted p unit = frameOf p unit
+
+abbrev pub openedBy : ℕ → ℕ → ℕ → List ℕ → ℕ → Reading
+openedBy words image reply p unit = openedAs (lentBy words image 32 reply) p unit
+
+-- NUMBERS 10 TO 15, by the facts that each command asks for
+
+abbrev pub decideDump : ℕ → Request → Found → ℕ → ℕ → Decision
+decideDump t q (Missed r) busy idle = Refuse r
+decideDump t q (At spot) busy idle =
+    cond (spot .dump)
+    (cond (ltb busy 4) (Refuse TransactionBusy)
+    (cond (leb 4 idle) (Refuse PlacesBusy) (Placed (record { place = idle; dump = newDump t (requested q) }))))
+    (Refuse NoRight)
+
+abbrev pub decideCancel : ℕ → Decision
+decideCancel busy = cond (leb 4 busy) (Refuse NotBusy) (Freed (record { place = busy }))
+
+abbrev pub decideLoad : Request → Found → Decision
+decideLoad q (Missed r) = Refuse r
+decideLoad q (At spot) = cond (spot .load) (Stored (record { at = spot .index; words = q .size })) (Refuse NoRight)
+
+-- the words of the image from an index on, and none where they are not all there
+abbrev pub wordsFrom : List ℕ → ℕ → ℕ → List ℕ
+wordsFrom image at n = cond (leb (at + n) (length image)) (take n (drop at image)) (take 0 image)
+
+abbrev pub decideWalked : Header → ℕ → Walked → Decision
+decideWalked h i Damaged = Refuse PoolDamaged
+decideWalked h i (Whole f) = Reply (record { header = h; pool = i; figures = f })
+
+abbrev pub decideFound : Header → ℕ → Range → Found → List ℕ → Decision
+decideFound h i pool (Missed r) image = Refuse r
+decideFound h i pool (At spot) image = decideWalked h i (walkedOf (blocksOf (wordsFrom image (spot .index .0) (pool .words))))
+
+abbrev pub decidePool : Header → ℕ → Range → Found → List ℕ → Decision
+decidePool h i pool found image = cond (eqb (pool .words) 0) (Refuse OutsideRegions) (decideFound h i pool found image)
+
+-- THE DECISION, with the facts of a state
+
+-- the words of a good state's image, which has at least one; else 0
+unfoldable pub goodWords : State → ℕ
+goodWords s = cond (goodState s) (imageLength (s .regions) (s .count)) 0
+
+abbrev pub find : State → Range → Found
+find s a = findRegion (s .regions) (s .count) a
+
+abbrev pub byCommand : State → List ℕ → ℕ → Command → Decision
+byCommand s image t (Dump q) = decideDump t q (find s (requested q)) (firstWith t (s .places)) (firstIdle (s .places))
+byCommand s image t Cancel = decideCancel (firstWith t (s .places))
+byCommand s image t (Load q) = decideLoad q (find s (requested q))
+byCommand s image t (PoolStatistics i) =
+    decidePool (record { count = s .replies; unit = s .unit; transaction = t }) i (poolAt (s .pools) i) (find s (poolAt (s .pools) i)) image
+
+abbrev pub byReading : State → List ℕ → Reading → Decision
+byReading s image (Unread r) = Refuse r
+byReading s image (Read f) = byCommand s image (f .header .transaction) (f .command)
+
+unfoldable pub decision : State → CommandArgs → Decision
+decision s c =
+    byReading s (c .image) (openedBy (goodWords s) (length (c .image)) (length (c .reply)) (c .packet) (s .unit))
+
+-- NUMBER AND EFFECT of every case
+
+abbrev pub answerOf : Decision → Answer
+answerOf (Refuse r) = Refused r
+answerOf (Placed x) = Done (record { length = 0 })
+answerOf (Freed x) = Done (record { length = 0 })
+answerOf (Stored x) = Done (record { length = 0 })
+answerOf (Reply x) = Done (record { length = 32 })
+
+abbrev pub imageAfter : Decision → List ℕ → List ℕ → List ℕ
+imageAfter (Refuse r) p image = image
+imageAfter (Placed x) p image = image
+imageAfter (Freed x) p image = image
+imageAfter (Stored x) p image = cond (leb (x .words) 11 && leb (x .at .0 + x .words) (length image)) (splice image (x .at .0) (take (x .words) (dataWords p))) image
+imageAfter (Reply x) p image = image
+
+abbrev pub replyAfter : Decision → List ℕ → List ℕ
+replyAfter (Refuse r) reply = reply
+replyAfter (Placed x) reply = reply
+replyAfter (Freed x) reply = reply
+replyAfter (Stored x) reply = reply
+replyAfter (Reply x) reply =
+    cond (leb 32 (length reply))
+    (splice reply 0 (figureBytes (x .header .count % 16384) (x .header .unit % 16) (x .header .transaction % 4096) (x .pool) (x .figures)))
+    reply
+
+abbrev pub stateAfter : State → Decision → State
+stateAfter s (Refuse r) = cond (counted r) (changed s (s .places) (s .replies) (s .accepted) (refusedMore s)) s
+stateAfter s (Placed x) = changed s (setContext (s .places) (x .place) (Busy (x .dump))) (s .replies) (acceptedMore s) (s .refused)
+stateAfter s (Freed x) = changed s (setContext (s .places) (x .place) Idle) (s .replies) (acceptedMore s) (s .refused)
+stateAfter s (Stored x) = changed s (s .places) (s .replies) (acceptedMore s) (s .refused)
+stateAfter s (Reply x) = changed s (s .places) ((s .replies + 1) % 16384) (acceptedMore s) (s .refused)
+
+abbrev pub carriedOut : State → CommandArgs → Decision → Outcome
+carriedOut s c d =
+    record {
+      answer = answerOf d;
+      state = stateAfter s d;
+      image = imageAfter d (c .packet) (c .image);
+      buffer = replyAfter d (c .reply);
+    }
+
+-- the call is the decision, carried out
+abbrev pub Decided : Type 0
+Decided = (s : State) (c : CommandArgs) → commandCall s c ≡ carriedOut s c (decision s c)

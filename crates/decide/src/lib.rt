@@ -1,0 +1,348 @@
+// The decisions of the command call and the slot call: pure functions on facts. A store of the state supplies the facts and carries the decision out.
+ghost use mathlib.Core.Path.{_≡_};
+ghost use Prim.Native.Nat.{_+_, _*_, _-_, _%_, min};
+ghost use Rattle.rules.specs.Packets.{requested};
+ghost use Rattle.rules.specs.Results.{counted};
+ghost use Rattle.decide.specs.Decisions.{lentBy, openedBy, decideDump, decideCancel, decideLoad, decidePool, answerOf, imageAfter, replyAfter, Decided};
+ghost use Rattle.decide.specs.Sendings.{decideSend, sendAnswer, bufferAfter, SlotDecided};
+use bulk::put_packet;
+use bulk::store_words;
+use bulk::word_after;
+use bulk::words_at;
+use packet::frame;
+use places::Seat;
+use places::after_packet;
+use pool::Figures;
+use pool::Walked;
+use pool::put_reply;
+use pool::walk_pool;
+use regions::Found;
+use rules::ActiveDump;
+use rules::Address;
+use rules::Answer;
+use rules::Context;
+use rules::DumpPacket;
+use rules::Header;
+use rules::Range;
+use rules::Reading;
+use rules::Refusal;
+use rules::Request;
+use rules::Verdict;
+use rules::WordIndex;
+use rules::Written;
+
+// WHAT CAN BE DECIDED
+
+// A cancelled dump's place.
+pub struct Freed {
+    pub place: usize,
+}
+
+// Where a load's words go, and how many there are.
+pub struct Stored {
+    pub at: WordIndex,
+    pub words: usize,
+}
+
+// What a reply to pool statistics tells.
+pub struct Report {
+    pub header: Header,
+    pub pool: u16,
+    pub figures: Figures,
+}
+
+// What a command call does.
+pub enum Decision {
+    Refuse(Refusal),
+    Dump(Seat),
+    Cancel(Freed),
+    Load(Stored),
+    Reply(Report),
+}
+
+// A dump's next packet, where its words are, and what its place does then.
+pub struct Piece {
+    pub packet: DumpPacket,
+    pub from: WordIndex,
+    pub place: usize,
+    pub after: Context,
+}
+
+// What a slot call does.
+pub enum Sending {
+    Keep(Refusal),
+    Send(Piece),
+}
+
+// NUMBERS 1 TO 9
+
+// Numbers 1 to 3 of a call that needs `size` bytes of its buffer. `words` is the length of a good state's image, and 0 where the state is not good.
+pub fn lent_verdict(words: usize, image: usize, size: usize, buffer: usize) -> Verdict
+    ensures { λ r. ⌜ r ≡ lentBy words image size buffer ⌝ }
+{
+    if words == 0 {
+        return Verdict::Rejected(Refusal::BadState);
+    }
+    if image != words {
+        return Verdict::Rejected(Refusal::ImageLength);
+    }
+    if buffer < size {
+        return Verdict::Rejected(Refusal::BufferLength);
+    }
+    Verdict::Accepted
+}
+
+// Numbers 1 to 9 of a command call, or the packet's fields.
+pub fn opened(words: usize, image: usize, reply: usize, packet: &[u8], unit: u8) -> Reading
+    ensures { λ r. ⌜ r ≡ openedBy words image reply (now (packet .entry)) unit ⌝ }
+{
+    let lent = lent_verdict(words, image, 32, reply);
+    match lent {
+        Verdict::Rejected(r) => Reading::Unread(r),
+        Verdict::Accepted => frame(packet, unit),
+    }
+}
+
+// NUMBERS 10 TO 15
+
+pub fn range_of(q: Request) -> Range
+    ensures { λ r. ⌜ r ≡ requested q ⌝ }
+{
+    let start = q.address;
+    Range {
+        start,
+        words: q.size as u32,
+    }
+}
+
+// A dump: `busy` is the lowest place busy with its number, `idle` the lowest idle one; 4 where there is none.
+pub fn dump(t: u16, q: Request, found: Found, busy: usize, idle: usize) -> Decision
+    ensures { λ d. ⌜ d ≡ decideDump t q found busy idle ⌝ }
+{
+    match found {
+        Found::Missed(r) => Decision::Refuse(r),
+        Found::At(spot) => {
+            if !spot.dump {
+                return Decision::Refuse(Refusal::NoRight);
+            }
+            if busy < 4 {
+                return Decision::Refuse(Refusal::TransactionBusy);
+            }
+            if 4 <= idle {
+                return Decision::Refuse(Refusal::PlacesBusy);
+            }
+            let dump = ActiveDump {
+                transaction: t,
+                range: range_of(q),
+                sent: 0,
+            };
+            Decision::Dump(Seat { place: idle, dump })
+        }
+    }
+}
+
+// A cancel: `busy` is the lowest place busy with its number, or 4.
+pub fn cancel(busy: usize) -> Decision
+    ensures { λ d. ⌜ d ≡ decideCancel busy ⌝ }
+{
+    if 4 <= busy {
+        return Decision::Refuse(Refusal::NotBusy);
+    }
+    Decision::Cancel(Freed { place: busy })
+}
+
+pub fn load(q: Request, found: Found) -> Decision
+    ensures { λ d. ⌜ d ≡ decideLoad q found ⌝ }
+{
+    match found {
+        Found::Missed(r) => Decision::Refuse(r),
+        Found::At(spot) => {
+            if !spot.load {
+                return Decision::Refuse(Refusal::NoRight);
+            }
+            let at = spot.index;
+            Decision::Load(Stored {
+                at,
+                words: q.size as usize,
+            })
+        }
+    }
+}
+
+// Pool statistics of pool i, to be answered with this header.
+pub fn pool_statistics(header: Header, i: u16, pool: Range, found: Found, image: &[u32]) -> Decision
+    ensures { λ d. ⌜ d ≡ decidePool header i pool found (now (image .entry)) ⌝ }
+{
+    if pool.words == 0 {
+        return Decision::Refuse(Refusal::OutsideRegions);
+    }
+    match found {
+        Found::Missed(r) => Decision::Refuse(r),
+        Found::At(spot) => {
+            let at = spot.index;
+            let walked = walk_pool(words_at(image, at, pool.words as usize));
+            match walked {
+                Walked::Damaged => Decision::Refuse(Refusal::PoolDamaged),
+                Walked::Whole(figures) => Decision::Reply(Report {
+                    header,
+                    pool: i,
+                    figures,
+                }),
+            }
+        }
+    }
+}
+
+// WHAT A DECISION MEANS OUTSIDE THE STATE
+
+// Whether a command that is refused so adds one to the refused count.
+pub fn is_counted(r: Refusal) -> bool
+    ensures { λ b. ⌜ b ≡ counted r ⌝ }
+{
+    match r {
+        Refusal::BadState => false,
+        Refusal::ImageLength => false,
+        Refusal::BufferLength => false,
+        Refusal::Malformed => true,
+        Refusal::OtherApid => false,
+        Refusal::UnknownCode => true,
+        Refusal::PacketLength => true,
+        Refusal::OtherUnit => false,
+        Refusal::BadField => true,
+        Refusal::OutsideRegions => true,
+        Refusal::NoRight => true,
+        Refusal::TransactionBusy => true,
+        Refusal::PlacesBusy => true,
+        Refusal::NotBusy => true,
+        Refusal::PoolDamaged => true,
+        Refusal::NothingToSend => false,
+        Refusal::BadTable => false,
+    }
+}
+
+// The answer to a command.
+pub fn answer_of(d: Decision) -> Answer
+    ensures { λ a. ⌜ a ≡ answerOf d ⌝ }
+{
+    match d {
+        Decision::Refuse(r) => Answer::Refused(r),
+        Decision::Dump(_) => Answer::Done(Written { length: 0 }),
+        Decision::Cancel(_) => Answer::Done(Written { length: 0 }),
+        Decision::Load(_) => Answer::Done(Written { length: 0 }),
+        Decision::Reply(_) => Answer::Done(Written { length: 32 }),
+    }
+}
+
+// The image and the reply after a command.
+pub fn write_out(d: Decision, packet: &[u8], image: &mut [u32], reply: &mut [u8])
+    ensures { λ _. ⌜ (now (image .exit) ≡ imageAfter d (now (packet .entry)) (now (image .entry))) × (now (reply .exit) ≡ replyAfter d (now (reply .entry))) ⌝ }
+{
+    match d {
+        Decision::Refuse(_) => {}
+        Decision::Dump(_) => {}
+        Decision::Cancel(_) => {}
+        Decision::Load(l) => {
+            let at = l.at;
+            store_words(image, at, packet, l.words);
+        }
+        Decision::Reply(r) => {
+            let header = r.header;
+            let figures = r.figures;
+            put_reply(
+                reply,
+                header.count,
+                header.unit,
+                header.transaction,
+                r.pool,
+                figures,
+            );
+        }
+    }
+}
+
+// A SLOT
+
+// The words of the next packet of a dump of so many words, of which some were sent.
+fn packet_words(words: u32, sent: u32) -> u32
+    ensures { λ n. ⌜ n ≡ min 1016 (words - sent) ⌝ }
+{
+    if words <= sent {
+        return 0;
+    }
+    let left = words - sent;
+    if left < 1016 { left } else { 1016 }
+}
+
+// The address `sent` words on, modulo 2^32.
+fn address_after(start: Address, sent: u32) -> Address
+    ensures { λ a. ⌜ a .0 ≡ (start .0 + 4 * sent) % 4294967296 ⌝ }
+{
+    let at = start.0 as u64 + 4 * sent as u64;
+    Address((at % 4294967296) as u32)
+}
+
+// The next packet of the dump whose turn it is: `count` is the packet count of the dumps.
+pub fn send(seat: Seat, found: Found, count: u16, unit: u8, tick: u32) -> Sending
+    ensures { λ d. ⌜ d ≡ decideSend seat found count unit tick ⌝ }
+{
+    let d = seat.dump;
+    match found {
+        // never: a dump of a good state lies in a region
+        Found::Missed(_) => Sending::Keep(Refusal::NothingToSend),
+        Found::At(spot) => {
+            let range = d.range;
+            let first = spot.index;
+            let header = Header {
+                count,
+                unit,
+                transaction: d.transaction,
+            };
+            let here = address_after(range.start, d.sent);
+            let words = packet_words(range.words, d.sent);
+            let packet = DumpPacket {
+                header,
+                tick,
+                range,
+                here,
+                words,
+            };
+            let from = word_after(first, d.sent as usize);
+            let after = after_packet(d);
+            Sending::Send(Piece {
+                packet,
+                from,
+                place: seat.place,
+                after,
+            })
+        }
+    }
+}
+
+// The answer to a slot, with the packet in the buffer.
+pub fn send_out(d: Sending, image: &[u32], buffer: &mut [u8]) -> Answer
+    ensures { λ a. ⌜ (a ≡ sendAnswer d) × (now (buffer .exit) ≡ bufferAfter d (now (image .entry)) (now (buffer .entry))) ⌝ }
+{
+    match d {
+        Sending::Keep(r) => Answer::Refused(r),
+        Sending::Send(p) => {
+            let packet = p.packet;
+            let from = p.from;
+            put_packet(buffer, packet, words_at(image, from, packet.words as usize));
+            Answer::Done(Written {
+                length: 28 + 4 * packet.words as usize,
+            })
+        }
+    }
+}
+
+// THE LAWS. These functions do nothing: the contract of each is what is proved.
+
+// The command call is the decision, carried out.
+pub fn command_is_decided()
+    ensures { λ r. ⌜ Decided ⌝ }
+{}
+
+// The slot call is the decision, carried out.
+pub fn slot_is_decided()
+    ensures { λ r. ⌜ SlotDecided ⌝ }
+{}

@@ -1,0 +1,43 @@
+-- `lent_command::find` meets its contract.
+-- Assumes nothing.
+use native.Mathlib.Omega.{arith}
+use Rattle.block.proofs.GoodWords.{block-is, state-is, block-words}
+use Rattle.lent_state.proofs.Uses.{found-in}
+use borrow.Author.Needs.{needs}
+use Rattle.lent_command.proofs.find.Statement.{statement}
+use Rattle.lent_command.proofs.find.Tie as tie
+
+sub-find-region : tie.Need-sub-find-region
+sub-find-region c = search needs
+
+part-find-region-start : tie.Need-part-find-region-start
+part-find-region-start c = search needs
+
+part-find-region-end : tie.Need-part-find-region-end
+part-find-region-end c = let n = block-words _ (c .before .pre) in omega arith
+
+word-at-requires : tie.Need-word-at-requires
+word-at-requires c κs = search needs
+
+cast-find-region : tie.Need-cast-find-region
+cast-find-region c = search needs
+
+find-region-requires : tie.Need-find-region-requires
+find-region-requires c κs = search needs
+
+returns : tie.Need-returns
+returns c =
+    let s = c .before .before .before .before in
+    found-in _ (block-is _ (s .pre)) (state-is _ (s .pre)) _ (c .before .word-at .ensures) _ (c .find-region .ensures)
+
+pub find-spec : {M : Type 1} → statement M
+find-spec =
+    tie.close
+    (tie.spec
+    sub-find-region
+    part-find-region-start
+    part-find-region-end
+    word-at-requires
+    cast-find-region
+    find-region-requires
+    returns)

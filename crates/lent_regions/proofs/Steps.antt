@@ -1,0 +1,79 @@
+-- Region i of a table in words against region i of the table: one turn of each loop, the region found, and what the loops end with.
+-- Assumes nothing.
+use mathlib.Core.Path.{_≡_, sym, ap, _∙_}
+use mathlib.Core.Bool.{Bool, true, false}
+use mathlib.Core.List.{List}
+use Prim.Native.Nat.{ℕ, _+_, _*_, _-_, _/_, _%_, _≤_, _<_, min}
+use native.Mathlib.Omega.{arith}
+use lib.Dec.{leb, eqb}
+use lib.ListN.{length, List·getD-eq-default}
+use borrow.Author.Tests.{le-leb, lt-leb}
+use Rattle.lists.specs.Below.{allBelow, anyBelow}
+use Rattle.lists.proofs.Below.{all-at, all-of}
+use Rattle.lists.proofs.Tests.{either, contra, by-lt}
+use Rattle.rules.specs.Regions.{startOf, endOf, noRegion, regionAt, rangeAt, endBefore, regionRules, wordsBelow}
+use Rattle.rules.specs.declared.Range.{Range}
+use Rattle.rules.specs.declared.Refusal.the-variants.{OutsideRegions}
+use Rattle.rules.specs.declared.Region.{Region}
+use Rattle.regions.specs.Lookup.{rulesBy, holdsBy, findRegion}
+use Rattle.regions.specs.declared.Found.the-variants.{Missed, At}
+use Rattle.regions.proofs.Steps.{end-more, words-more, held, found-at}
+use Rattle.block.specs.Blocks.{word, rangeIn, regionIn, regionsIn, regionsBounds}
+use Rattle.block.proofs.Runs.{list-at}
+use Rattle.lent_regions.specs.Finding.{findIn}
+
+module _ (w : List ℕ) (i : ℕ) (l : i < 16) where
+  region-at : regionAt (regionsIn w 0) i ≡ regionIn w (3 * i)
+  region-at = let e : 0 + 3 * i ≡ 3 * i = omega arith in list-at noRegion (λ k. regionIn w (0 + 3 * k)) 16 i l ∙ ap (regionIn w) e
+
+  range-at : rangeAt (regionsIn w 0) i ≡ rangeIn w (3 * i)
+  range-at = ap (λ (r : Region). r .range) region-at
+
+  -- start and size as they were read
+  module _ (start words : ℕ) (es : start ≡ word w (3 * i)) (ew : words ≡ word w (3 * i + 1)) where
+    pub rules-at : (before : ℕ) → before ≡ endBefore (regionsIn w 0) i → rulesBy start words before ≡ regionRules (regionsIn w 0) i
+    rules-at before e = rw (e, es, ew, range-at)
+
+    pub end-at : start + 4 * words ≡ endBefore (regionsIn w 0) (i + 1)
+    end-at = sym (rw (range-at, ← es, ← ew) at (sym (end-more (regionsIn w 0) i)))
+
+    pub words-at : wordsBelow (regionsIn w 0) i + words ≡ wordsBelow (regionsIn w 0) (i + 1)
+    words-at = rw (ew) (rw range-at at (words-more (regionsIn w 0) i))
+
+    pub held-at : (from end : ℕ) → holdsBy start words from end ≡ held (regionsIn w 0) from end i
+    held-at from end = rw (es, ew, range-at)
+
+    -- the region that holds the range, with its rights as they were read
+    pub found-here : (m : ℕ) (a : Range) (end : ℕ) → end ≡ endOf a → i < m → holdsBy start words (startOf a) end ≡ true
+        → anyBelow (held (regionsIn w 0) (startOf a) end) i ≡ false → (base offset rights : ℕ) → base ≡ wordsBelow (regionsIn w 0) i
+        → offset ≡ (startOf a - start) / 4 → rights ≡ word w (3 * i + 2)
+        → At (record { region = i; index = record { 0 = base + offset }; load = eqb (rights % 2) 1; dump = leb 2 rights }) ≡ findRegion (regionsIn w 0) m a
+    found-here m a end ee k h none base offset rights eb eo er =
+        rw (er)
+        (rw region-at at
+        (found-at (regionsIn w 0) m a end ee i k (sym (held-at (startOf a) end) ∙ h) none base offset eb (eo ∙ rw (es, range-at))))
+
+-- THE RIGHTS of the entries that are whole in the words: the others are 0
+module _ (w : List ℕ) (m : ℕ) (em : m ≡ min (length w / 3) 16) where
+  abbrev low : ℕ → Bool
+  low k = leb (word w (0 + 3 * k + 2)) 3
+
+  none-past : (k : ℕ) → m ≤ k → k < 16 → low k ≡ true
+  none-past k l q = rw (List·getD-eq-default w 0 {n = 0 + 3 * k + 2} (omega arith))
+
+  pub rights-all : (i : ℕ) → i ≤ m → m ≤ i → allBelow low i ≡ regionsBounds w 0
+  unfolding regionsBounds
+  rights-all i l q =
+      either (allBelow low i)
+      (λ e. e ∙ sym (all-of low 16 (λ k r. by-lt k i (λ s. all-at low i e s) (λ s. none-past k (omega arith) r))))
+      (λ e. e ∙ sym (either (allBelow low 16) (λ t. absurd (contra (all-of low i (λ k r. all-at low 16 t (omega arith))) e)) (λ t. t)))
+
+-- FEWER WORDS THAN A TABLE, and the words of one
+module _ (w : List ℕ) (n : ℕ) (a : Range) where
+  pub no-table : length w < 48 → Missed OutsideRegions ≡ findIn w n a
+  unfolding findIn
+  no-table l = rw (lt-leb 48 (length w) l)
+
+  pub of-table : 48 ≤ length w → findIn w n a ≡ findRegion (regionsIn w 0) (min n 16) a
+  unfolding findIn
+  of-table l = rw (le-leb 48 (length w) l)

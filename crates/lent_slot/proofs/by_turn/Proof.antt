@@ -1,0 +1,101 @@
+-- `lent_slot::by_turn` meets its contract.
+-- Assumes nothing.
+use native.Mathlib.Omega.{arith}
+use Rattle.block.proofs.GoodWords.{block-is, state-is, block-words}
+use Rattle.lent_state.proofs.Uses.{turn-in}
+use Rattle.lent_slot.proofs.Steps.{sent-on}
+use borrow.Author.Needs.{needs}
+use Rattle.lent_slot.proofs.by_turn.Statement.{statement}
+use Rattle.lent_slot.proofs.by_turn.Tie as tie
+
+sub-next-turn : tie.Need-sub-next-turn
+sub-next-turn c = search needs
+
+part-next-turn-start : tie.Need-part-next-turn-start
+part-next-turn-start c = search needs
+
+part-next-turn-end : tie.Need-part-next-turn-end
+part-next-turn-end c = let n = block-words _ (c .before .pre) in omega arith
+
+word-at-requires : tie.Need-word-at-requires
+word-at-requires c κs = search needs
+
+next-turn-requires : tie.Need-next-turn-requires
+next-turn-requires c κs = search needs
+
+enum-told : tie.Need-enum-told
+enum-told c = search needs
+
+enum-known-turn : tie.Need-enum-known-turn
+enum-known-turn c = search needs
+
+sub-find-region : tie.Need-sub-find-region
+sub-find-region c = search needs
+
+part-find-region-start : tie.Need-part-find-region-start
+part-find-region-start c = search needs
+
+part-find-region-end : tie.Need-part-find-region-end
+part-find-region-end c = let n = block-words _ (c .before .before .before .before .before .before .before .before .pre) in omega arith
+
+word-at-requires-2 : tie.Need-word-at-requires-2
+word-at-requires-2 c κs = search needs
+
+cast-find-region : tie.Need-cast-find-region
+cast-find-region c = search needs
+
+find-region-requires : tie.Need-find-region-requires
+find-region-requires c κs = search needs
+
+word-at-requires-3 : tie.Need-word-at-requires-3
+word-at-requires-3 c κs = search needs
+
+cast-count : tie.Need-cast-count
+cast-count c = search needs
+
+word-at-requires-4 : tie.Need-word-at-requires-4
+word-at-requires-4 c κs = search needs
+
+cast-unit : tie.Need-cast-unit
+cast-unit c = search needs
+
+send-requires : tie.Need-send-requires
+send-requires c κs = search needs
+
+returns : tie.Need-returns
+returns c =
+    let s = c .before .before .before .before .before .before in
+    let t = turn-in _ (block-is _ (s .pre)) _ (c .before .before .before .word-at .ensures) (c .before .before .next-turn .ensures) in
+    rw (← t, c .enum-told .given .1)
+
+returns-2 : tie.Need-returns-2
+returns-2 c =
+    let s = c .before .before .before .before .before .before .before .before .before .before .before .before .before .before in
+    let t = turn-in _ (block-is _ (s .pre)) _ (c .before .before .before .before .before .before .before .before .before .before .before .word-at .ensures) (c .before .before .before .before .before .before .before .before .before .before .next-turn .ensures) in
+    rw (← t, c .before .before .before .before .before .before .before .before .turn .given .1)
+    (sent-on _ (block-is _ (s .pre)) (state-is _ (s .pre)) _ _ (c .before .before .before .before .word-at2 .ensures) (c .before .before .word-at3 .ensures) (c .before .word-at4 .ensures) (c .before .before .before .find-region .ensures) (c .send .ensures))
+
+pub by-turn-spec : {M : Type 1} → statement M
+by-turn-spec =
+    tie.close
+    (tie.spec
+    sub-next-turn
+    part-next-turn-start
+    part-next-turn-end
+    word-at-requires
+    next-turn-requires
+    enum-told
+    enum-known-turn
+    sub-find-region
+    part-find-region-start
+    part-find-region-end
+    word-at-requires-2
+    cast-find-region
+    find-region-requires
+    word-at-requires-3
+    cast-count
+    word-at-requires-4
+    cast-unit
+    send-requires
+    returns
+    returns-2)

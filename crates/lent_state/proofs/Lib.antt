@@ -1,0 +1,5 @@
+pub mod Steps
+pub mod Good
+pub mod Answers
+pub mod Started
+pub mod Uses
