@@ -428,13 +428,13 @@ static void calibrate(struct test *t)
     t->calls = (long)((smoke ? 2e4 : 2e6) / one) + 1;
 }
 
-/* Each library once, in turns; each warms up by itself. */
+/* Each library once, in turns, each after calls of its own to warm up; the empty loop last, or the one after it would start a round twice as often. */
 static void measure(struct test *t, int round)
 {
     own_image(t);
     lend(t);
     for (int k = 0; k < LIBRARIES; k++) {
-        int l = (round + k) % LIBRARIES;
+        int l = k == EMPTY ? EMPTY : (round + k) % EMPTY;
         run(&libraries[l], t, t->calls / 50 + 1);
         t->times[l][round] = run(&libraries[l], t, t->calls);
     }
