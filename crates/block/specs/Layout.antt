@@ -2,17 +2,17 @@
 use mathlib.Core.Path.{_≡_}
 use mathlib.Core.Bool.{cond}
 use Prim.Native.Nat.{ℕ, _+_, _*_, _<_}
-use lib.ListN.{length}
+use lib.ListN.{length, getD}
 use Rattle.rules.specs.Regions.{startOf, regionAt}
 use Rattle.rules.specs.States.{poolAt, contextAt}
 use Rattle.rules.specs.declared.ActiveDump.{ActiveDump}
 use Rattle.rules.specs.declared.Context.the-variants.{Idle, Busy}
 use Rattle.rules.specs.declared.Region.{Region}
 use Rattle.rules.specs.declared.State.{State}
-use Rattle.block.specs.Blocks.{word, blockOf}
+use Rattle.block.specs.Blocks.{blockOf}
 
 abbrev pub at : State → ℕ → ℕ
-at s i = word (blockOf s) i
+at s i = getD (blockOf s) i 0
 
 pub record Layout (s : State) : Type 0 where
   pub words : length (blockOf s) ≡ 79

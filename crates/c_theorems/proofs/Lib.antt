@@ -1,2 +1,4 @@
 pub mod Computed
+pub mod Start
 pub mod FromC
+pub mod Ground

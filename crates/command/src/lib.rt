@@ -1,9 +1,10 @@
 // The command call on a State: the facts from its parts, the decision, and the state after it.
 ghost use mathlib.Core.Path.{_≡_};
-ghost use mathlib.Core.Bool.{true};
+ghost use mathlib.Core.Bool.{true, cond};
 ghost use mathlib.Core.List.{List};
 ghost use Prim.Native.Nat.{ℕ, _+_, _%_, _≤_, _<_};
 ghost use lib.ListN.{length};
+ghost use Rattle.rules.specs.Regions.{imageLength};
 ghost use Rattle.rules.specs.States.{poolAt, goodState};
 ghost use Rattle.rules.specs.Commands.{returned, setContext, changed, acceptedMore, commandCall};
 ghost use Rattle.rules.specs.declared.Reading.the-variants.{Read};
@@ -86,11 +87,11 @@ fn by_command(s: State, f: Telecommand, image: &[u32]) -> Decision
     }
 }
 
-// The decision on a packet: what the call would do.
-fn decide(s: State, packet: &[u8], image: &[u32], reply: usize) -> Decision
-    ensures { λ d. ⌜ ((bytes : List ℕ) → length bytes ≡ reply → d ≡ decision s (record { packet = now (packet .entry); image = now (image .entry); reply = bytes })) ⌝ }
+// The decision on a packet: what the call would do. `good` is what the good state's test answers.
+fn decide(s: State, good: usize, packet: &[u8], image: &[u32], reply: usize) -> Decision
+    ensures { λ d. ⌜ ((bytes : List ℕ) → good ≡ cond (goodState s) (imageLength (s .regions) (s .count)) 0 → length bytes ≡ reply → d ≡ decision s (record { packet = now (packet .entry); image = now (image .entry); reply = bytes })) ⌝ }
 {
-    let opened = opened(good_words(s), image.len(), reply, packet, s.unit);
+    let opened = opened(good, image.len(), reply, packet, s.unit);
     match opened {
         Reading::Unread(r) => Decision::Refuse(r),
         Reading::Read(f) => by_command(s, f, image),
@@ -153,7 +154,7 @@ pub fn command(s: State, packet: &[u8], image: &mut [u32], reply: &mut [u8]) -> 
         × (now (image .exit) ≡ commandCall s (record { packet = now (packet .entry); image = now (image .entry); reply = now (reply .entry) }) .image)
         × (now (reply .exit) ≡ commandCall s (record { packet = now (packet .entry); image = now (image .entry); reply = now (reply .entry) }) .buffer) ⌝ }
 {
-    let d = decide(s, packet, image, reply.len());
+    let d = decide(s, good_words(s), packet, image, reply.len());
     write_out(d, packet, image, reply);
     let answer = answer_of(d);
     let state = applied(s, d);

@@ -4,6 +4,8 @@ ghost use Prim.Native.Nat.{_+_, _*_, _-_, _%_, min};
 ghost use Rattle.rules.specs.Packets.{requested};
 ghost use Rattle.rules.specs.Results.{counted};
 ghost use Rattle.decide.specs.Decisions.{lentBy, openedBy, decideDump, decideCancel, decideLoad, decidePool, answerOf, imageAfter, replyAfter, Decided};
+ghost use Rattle.rules.specs.declared.Refusal.the-variants.{NothingToSend};
+ghost use Rattle.decide.specs.declared.Sending.the-variants.{Keep};
 ghost use Rattle.decide.specs.Sendings.{decideSend, sendAnswer, bufferAfter, SlotDecided};
 use bulk::put_packet;
 use bulk::store_words;
@@ -281,6 +283,13 @@ fn address_after(start: Address, sent: u32) -> Address
     Address((at % 4294967296) as u32)
 }
 
+// No dump is busy.
+pub fn nothing_to_send() -> Sending
+    ensures { λ d. ⌜ d ≡ Keep NothingToSend ⌝ }
+{
+    Sending::Keep(Refusal::NothingToSend)
+}
+
 // The next packet of the dump whose turn it is: `count` is the packet count of the dumps.
 pub fn send(seat: Seat, found: Found, count: u16, unit: u8, tick: u32) -> Sending
     ensures { λ d. ⌜ d ≡ decideSend seat found count unit tick ⌝ }
@@ -288,7 +297,7 @@ pub fn send(seat: Seat, found: Found, count: u16, unit: u8, tick: u32) -> Sendin
     let d = seat.dump;
     match found {
         // never: a dump of a good state lies in a region
-        Found::Missed(_) => Sending::Keep(Refusal::NothingToSend),
+        Found::Missed(_) => nothing_to_send(),
         Found::At(spot) => {
             let range = d.range;
             let first = spot.index;

@@ -15,6 +15,7 @@ use block::set_word;
 use block::word_at;
 use decide::Sending;
 use decide::lent_verdict;
+use decide::nothing_to_send;
 use decide::send;
 use decide::send_out;
 use lent_places::next_turn;
@@ -23,7 +24,6 @@ use lent_regions::find_region;
 use lent_state::good_words;
 use places::Turn;
 use results::hand_over;
-use rules::Refusal;
 use rules::Verdict;
 
 // The decision on a slot of a good state.
@@ -33,7 +33,7 @@ fn by_turn(b: &[u32], tick: u32) -> Sending
 {
     let turn = next_turn(&b[54..74], word_at(b, 74));
     match turn {
-        Turn::Nobody => Sending::Keep(Refusal::NothingToSend),
+        Turn::Nobody => nothing_to_send(),
         Turn::Next(s) => {
             let range = s.dump.range;
             let found = find_region(&b[1..49], word_at(b, 0) as usize, range);

@@ -101,25 +101,13 @@ pub fn context_at(ps: [Place; 4], i: usize) -> Context
     }
 }
 
-fn with_at(ps: [Place; 4], t: u16, i: usize) -> bool
-    ensures { λ r. ⌜ r ≡ busyWith t (contextAt ps i) ⌝ }
-{
-    busy_with(t, context_at(ps, i))
-}
-
-fn idle_at(ps: [Place; 4], i: usize) -> bool
-    ensures { λ r. ⌜ r ≡ isIdle (contextAt ps i) ⌝ }
-{
-    is_idle(context_at(ps, i))
-}
-
 // The lowest of the first k places that is busy with transaction t, and k where there is none.
 pub fn first_with(ps: [Place; 4], t: u16, k: usize) -> usize
     ensures { λ r. ⌜ r ≡ firstWithin ps t k ⌝ }
 {
     let mut i: usize = 0;
     while i < k {
-        if with_at(ps, t, i) {
+        if busy_with(t, context_at(ps, i)) {
             return i;
         }
         i += 1;
@@ -133,7 +121,7 @@ pub fn first_idle(ps: [Place; 4]) -> usize
 {
     let mut i: usize = 0;
     while i < 4 {
-        if idle_at(ps, i) {
+        if is_idle(context_at(ps, i)) {
             return i;
         }
         i += 1;
@@ -149,7 +137,7 @@ fn next_place(ps: [Place; 4], last: u8) -> usize
     let mut k: usize = 0;
     while k < 4 {
         let at = (from + k) % 4;
-        if !idle_at(ps, at) {
+        if !is_idle(context_at(ps, at)) {
             return at;
         }
         k += 1;

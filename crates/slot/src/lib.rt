@@ -1,9 +1,10 @@
 // The slot call on a State: the next packet of the dump whose turn it is, or 1, 2, 3 or 16.
 ghost use mathlib.Core.Path.{_≡_};
-ghost use mathlib.Core.Bool.{true};
+ghost use mathlib.Core.Bool.{true, cond};
 ghost use mathlib.Core.List.{List};
 ghost use Prim.Native.Nat.{ℕ};
 ghost use lib.ListN.{length};
+ghost use Rattle.rules.specs.Regions.{imageLength};
 ghost use Rattle.rules.specs.States.{goodState};
 ghost use Rattle.rules.specs.Commands.{returned};
 ghost use Rattle.rules.specs.Slots.{slotCall};
@@ -11,13 +12,13 @@ ghost use Rattle.places.specs.Turns.{nextTurn};
 ghost use Rattle.decide.specs.Sendings.{byTurn, sending, stateSent, PlaceFits};
 use decide::Sending;
 use decide::lent_verdict;
+use decide::nothing_to_send;
 use decide::send;
 use decide::send_out;
 use places::Turn;
 use places::next_turn;
 use places::set_context;
 use regions::find_region;
-use rules::Refusal;
 use rules::Returned;
 use rules::State;
 use rules::Verdict;
@@ -30,7 +31,7 @@ fn by_turn(s: State, tick: u32) -> Sending
     let ps = s.places;
     let turn = next_turn(ps, s.last);
     match turn {
-        Turn::Nobody => Sending::Keep(Refusal::NothingToSend),
+        Turn::Nobody => nothing_to_send(),
         Turn::Next(x) => {
             let rs = s.regions;
             let range = x.dump.range;
@@ -40,11 +41,11 @@ fn by_turn(s: State, tick: u32) -> Sending
     }
 }
 
-// The decision on a slot: what the call would send.
-fn decide(s: State, tick: u32, image: usize, buffer: usize) -> Sending
-    ensures { λ d. ⌜ ((words bytes : List ℕ) → length words ≡ image → length bytes ≡ buffer → d ≡ sending s (record { tick = tick; image = words; buffer = bytes })) ⌝ }
+// The decision on a slot: what the call would send. `good` is what the good state's test answers.
+fn decide(s: State, good: usize, tick: u32, image: usize, buffer: usize) -> Sending
+    ensures { λ d. ⌜ ((words bytes : List ℕ) → good ≡ cond (goodState s) (imageLength (s .regions) (s .count)) 0 → length words ≡ image → length bytes ≡ buffer → d ≡ sending s (record { tick = tick; image = words; buffer = bytes })) ⌝ }
 {
-    let lent = lent_verdict(good_words(s), image, 4092, buffer);
+    let lent = lent_verdict(good, image, 4092, buffer);
     match lent {
         Verdict::Rejected(r) => Sending::Keep(r),
         Verdict::Accepted => by_turn(s, tick),
@@ -74,7 +75,7 @@ fn applied(s: State, d: Sending) -> State
 pub fn slot(s: State, tick: u32, image: &[u32], buffer: &mut [u8]) -> Returned
     ensures { λ r. ⌜ (r ≡ returned (slotCall s (record { tick = tick; image = now (image .entry); buffer = now (buffer .entry) }))) × (now (buffer .exit) ≡ slotCall s (record { tick = tick; image = now (image .entry); buffer = now (buffer .entry) }) .buffer) ⌝ }
 {
-    let d = decide(s, tick, image.len(), buffer.len());
+    let d = decide(s, good_words(s), tick, image.len(), buffer.len());
     let answer = send_out(d, image, buffer);
     let state = applied(s, d);
     Returned { answer, state }

@@ -5,9 +5,6 @@ use borrow.Author.Needs.{needs}
 use Rattle.command.proofs.decide.Statement.{statement}
 use Rattle.command.proofs.decide.Tie as tie
 
-good-words-requires : tie.Need-good-words-requires
-good-words-requires c κs = search needs
-
 opened-requires : tie.Need-opened-requires
 opened-requires c κs = search needs
 
@@ -21,16 +18,15 @@ by-command-requires : tie.Need-by-command-requires
 by-command-requires c κs = search needs
 
 returns : tie.Need-returns
-returns c = λ bytes e. step-refused _ _ (c .before .before .before .before .good-words .ensures) e (c .before .before .before .opened .ensures) (c .before .opened2 .given .1)
+returns c = λ bytes eg e. step-refused _ _ eg e (c .before .before .before .opened .ensures) (c .before .opened2 .given .1)
 
 returns-2 : tie.Need-returns-2
-returns-2 c = λ bytes e. step-read _ _ (c .before .before .before .before .before .good-words .ensures) e (c .before .before .before .before .opened .ensures) (c .before .before .opened3 .given .1) (c .by-command .ensures)
+returns-2 c = λ bytes eg e. step-read _ _ eg e (c .before .before .before .before .opened .ensures) (c .before .before .opened3 .given .1) (c .by-command .ensures)
 
 pub decide-spec : {M : Type 1} → statement M
 decide-spec =
     tie.close
     (tie.spec
-    good-words-requires
     opened-requires
     enum-known-opened
     enum-known-opened-2

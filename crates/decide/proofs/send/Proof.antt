@@ -7,6 +7,9 @@ use Rattle.decide.proofs.send.Tie as tie
 enum-told : tie.Need-enum-told
 enum-told c = search needs
 
+nothing-to-send-requires : tie.Need-nothing-to-send-requires
+nothing-to-send-requires c κs = search needs
+
 enum-known-found : tie.Need-enum-known-found
 enum-known-found c = search needs
 
@@ -26,7 +29,7 @@ after-packet-requires : tie.Need-after-packet-requires
 after-packet-requires c κs = search needs
 
 returns : tie.Need-returns
-returns c = rw (c .enum-told .given .1)
+returns c = rw (c .before .enum-told .given .1) (c .nothing-to-send .ensures)
 
 returns-2 : tie.Need-returns-2
 returns-2 c = rw (c .before .before .before .before .before .before .before .before .found .given .1, ← c .before .before .before .before .address-after .ensures, ← c .before .before .before .packet-words .ensures, ← c .before .word-after .ensures, ← c .after-packet .ensures)
@@ -36,6 +39,7 @@ send-spec =
     tie.close
     (tie.spec
     enum-told
+    nothing-to-send-requires
     enum-known-found
     address-after-requires
     packet-words-requires

@@ -26,6 +26,9 @@ next-turn-requires c κs = search needs
 enum-told : tie.Need-enum-told
 enum-told c = search needs
 
+nothing-to-send-requires : tie.Need-nothing-to-send-requires
+nothing-to-send-requires c κs = search needs
+
 enum-known-turn : tie.Need-enum-known-turn
 enum-known-turn c = search needs
 
@@ -64,9 +67,9 @@ send-requires c κs = search needs
 
 returns : tie.Need-returns
 returns c =
-    let s = c .before .before .before .before .before .before in
-    let t = turn-in _ (block-is _ (s .pre)) _ (c .before .before .before .word-at .ensures) (c .before .before .next-turn .ensures) in
-    rw (← t, c .enum-told .given .1)
+    let s = c .before .before .before .before .before .before .before in
+    let t = turn-in _ (block-is _ (s .pre)) _ (c .before .before .before .before .word-at .ensures) (c .before .before .before .next-turn .ensures) in
+    rw (← t, c .before .enum-told .given .1) (c .nothing-to-send .ensures)
 
 returns-2 : tie.Need-returns-2
 returns-2 c =
@@ -85,6 +88,7 @@ by-turn-spec =
     word-at-requires
     next-turn-requires
     enum-told
+    nothing-to-send-requires
     enum-known-turn
     sub-find-region
     part-find-region-start

@@ -21,12 +21,18 @@ abbrev μ-loop : tie.MeasureT-loop
 loop-holds : tie.Need-loop-holds Inv-loop μ-loop
 loop-holds c = (omega arith, refl)
 
-idle-at-requires : tie.Need-idle-at-requires Inv-loop μ-loop
-idle-at-requires c κs = search needs
+context-at-requires : tie.Need-context-at-requires Inv-loop μ-loop
+context-at-requires c κs = search needs
+
+is-idle-requires : tie.Need-is-idle-requires Inv-loop μ-loop
+is-idle-requires c κs = search needs
 
 returns : tie.Need-returns Inv-loop μ-loop
 unfolding firstIdle
-returns c = let l = c .before .before .before .loop in stop-here _ (l .i) (l .inv .1) 4 (omega arith) (sym (c .before .idle-at .ensures) ∙ c .if1 .taken)
+returns c =
+    let l = c .before .before .before .before .loop in
+    let e = rw (c .before .before .context-at .ensures) at (c .before .is-idle .ensures) in
+    stop-here _ (l .i) (l .inv .1) 4 (omega arith) (sym e ∙ c .if1 .taken)
 
 add-i : tie.Need-add-i Inv-loop μ-loop
 add-i c = omega arith
@@ -35,7 +41,10 @@ loop-less : tie.Need-loop-less Inv-loop μ-loop
 loop-less c = omega arith
 
 loop-again : tie.Need-loop-again Inv-loop μ-loop
-loop-again c = let l = c .before .before .before .loop in (omega arith, go-on _ (l .i) (l .inv .1) (sym (c .before .idle-at .ensures) ∙ c .if1 .left))
+loop-again c =
+    let l = c .before .before .before .before .loop in
+    let e = rw (c .before .before .context-at .ensures) at (c .before .is-idle .ensures) in
+    (omega arith, go-on _ (l .i) (l .inv .1) (sym e ∙ c .if1 .left))
 
 returns-2 : tie.Need-returns-2 Inv-loop μ-loop
 unfolding firstIdle
@@ -48,7 +57,8 @@ first-idle-spec =
     Inv-loop
     μ-loop
     loop-holds
-    idle-at-requires
+    context-at-requires
+    is-idle-requires
     returns
     add-i
     loop-less

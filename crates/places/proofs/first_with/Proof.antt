@@ -21,12 +21,18 @@ abbrev μ-loop : tie.MeasureT-loop
 loop-holds : tie.Need-loop-holds Inv-loop μ-loop
 loop-holds c = (omega arith, refl)
 
-with-at-requires : tie.Need-with-at-requires Inv-loop μ-loop
-with-at-requires c κs = search needs
+context-at-requires : tie.Need-context-at-requires Inv-loop μ-loop
+context-at-requires c κs = search needs
+
+busy-with-requires : tie.Need-busy-with-requires Inv-loop μ-loop
+busy-with-requires c κs = search needs
 
 returns : tie.Need-returns Inv-loop μ-loop
 unfolding firstWithin
-returns c = let l = c .before .before .before .loop in stop-here _ (l .i) (l .inv .1) _ (c .before .before .loop-test .taken) (sym (c .before .with-at .ensures) ∙ c .if1 .taken)
+returns c =
+    let l = c .before .before .before .before .loop in
+    let e = rw (c .before .before .context-at .ensures) at (c .before .busy-with .ensures) in
+    stop-here _ (l .i) (l .inv .1) _ (c .before .before .before .loop-test .taken) (sym e ∙ c .if1 .taken)
 
 add-i : tie.Need-add-i Inv-loop μ-loop
 add-i c = omega arith
@@ -35,7 +41,10 @@ loop-less : tie.Need-loop-less Inv-loop μ-loop
 loop-less c = omega arith
 
 loop-again : tie.Need-loop-again Inv-loop μ-loop
-loop-again c = let l = c .before .before .before .loop in (omega arith, go-on _ (l .i) (l .inv .1) (sym (c .before .with-at .ensures) ∙ c .if1 .left))
+loop-again c =
+    let l = c .before .before .before .before .loop in
+    let e = rw (c .before .before .context-at .ensures) at (c .before .busy-with .ensures) in
+    (omega arith, go-on _ (l .i) (l .inv .1) (sym e ∙ c .if1 .left))
 
 returns-2 : tie.Need-returns-2 Inv-loop μ-loop
 unfolding firstWithin
@@ -48,7 +57,8 @@ first-with-spec =
     Inv-loop
     μ-loop
     loop-holds
-    with-at-requires
+    context-at-requires
+    busy-with-requires
     returns
     add-i
     loop-less

@@ -27,11 +27,17 @@ loop-holds c = (omega arith, refl)
 add-at : tie.Need-add-at Inv-loop μ-loop
 add-at c = omega arith
 
-idle-at-requires : tie.Need-idle-at-requires Inv-loop μ-loop
-idle-at-requires c κs = search needs
+context-at-requires : tie.Need-context-at-requires Inv-loop μ-loop
+context-at-requires c κs = search needs
+
+is-idle-requires : tie.Need-is-idle-requires Inv-loop μ-loop
+is-idle-requires c κs = search needs
 
 returns : tie.Need-returns Inv-loop μ-loop
-returns c = let l = c .before .before .before .loop in stop-at _ _ (l .k) (l .inv .1) _ (c .before .idle-at .ensures) (omega arith) (c .if1 .taken)
+returns c =
+    let l = c .before .before .before .before .loop in
+    let e = rw (c .before .before .context-at .ensures) at (c .before .is-idle .ensures) in
+    stop-at _ _ (l .k) (l .inv .1) _ e (omega arith) (c .if1 .taken)
 
 add-k : tie.Need-add-k Inv-loop μ-loop
 add-k c = omega arith
@@ -41,9 +47,10 @@ loop-less c = omega arith
 
 loop-again : tie.Need-loop-again Inv-loop μ-loop
 loop-again c =
-    let l = c .before .before .before .loop in
-    let a = c .before .before .before .before .args in
-    (omega arith, go-round (a .ps) (a .last) (l .k) (l .inv .1) _ (c .before .idle-at .ensures) (c .if1 .left))
+    let l = c .before .before .before .before .loop in
+    let a = c .before .before .before .before .before .args in
+    let e = rw (c .before .before .context-at .ensures) at (c .before .is-idle .ensures) in
+    (omega arith, go-round (a .ps) (a .last) (l .k) (l .inv .1) _ e (c .if1 .left))
 
 add-result : tie.Need-add-result Inv-loop μ-loop
 add-result c = omega arith
@@ -60,7 +67,8 @@ next-place-spec =
     add-from
     loop-holds
     add-at
-    idle-at-requires
+    context-at-requires
+    is-idle-requires
     returns
     add-k
     loop-less

@@ -11,6 +11,9 @@ next-turn-requires c κs = search needs
 enum-told : tie.Need-enum-told
 enum-told c = search needs
 
+nothing-to-send-requires : tie.Need-nothing-to-send-requires
+nothing-to-send-requires c κs = search needs
+
 enum-known-turn : tie.Need-enum-known-turn
 enum-known-turn c = search needs
 
@@ -21,7 +24,7 @@ send-requires : tie.Need-send-requires
 send-requires c κs = search needs
 
 returns : tie.Need-returns
-returns c = λ good. rw (← c .before .before .next-turn .ensures, c .enum-told .given .1)
+returns c = λ good. rw (← c .before .before .before .next-turn .ensures, c .before .enum-told .given .1) (c .nothing-to-send .ensures)
 
 returns-2 : tie.Need-returns-2
 returns-2 c = λ good.
@@ -35,6 +38,7 @@ by-turn-spec =
     (tie.spec
     next-turn-requires
     enum-told
+    nothing-to-send-requires
     enum-known-turn
     find-region-requires
     send-requires

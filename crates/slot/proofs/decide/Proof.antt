@@ -5,9 +5,6 @@ use borrow.Author.Needs.{needs}
 use Rattle.slot.proofs.decide.Statement.{statement}
 use Rattle.slot.proofs.decide.Tie as tie
 
-good-words-requires : tie.Need-good-words-requires
-good-words-requires c κs = search needs
-
 lent-verdict-requires : tie.Need-lent-verdict-requires
 lent-verdict-requires c κs = search needs
 
@@ -21,16 +18,15 @@ by-turn-requires : tie.Need-by-turn-requires
 by-turn-requires c κs = search needs
 
 returns : tie.Need-returns
-returns c = λ words bytes ei eb. step-refused _ _ (c .before .before .before .before .good-words .ensures) ei eb (c .before .before .before .lent-verdict .ensures) (c .before .lent .given .1)
+returns c = λ words bytes eg ei eb. step-refused _ _ eg ei eb (c .before .before .before .lent-verdict .ensures) (c .before .lent .given .1)
 
 returns-2 : tie.Need-returns-2
-returns-2 c = λ words bytes ei eb. step-turn _ _ (c .before .before .before .before .good-words .ensures) ei eb (c .before .before .before .lent-verdict .ensures) (c .before .enum-told .given .1) (c .by-turn .ensures)
+returns-2 c = λ words bytes eg ei eb. step-turn _ _ eg ei eb (c .before .before .before .lent-verdict .ensures) (c .before .enum-told .given .1) (c .by-turn .ensures)
 
 pub decide-spec : {M : Type 1} → statement M
 decide-spec =
     tie.close
     (tie.spec
-    good-words-requires
     lent-verdict-requires
     enum-known-lent
     enum-told
