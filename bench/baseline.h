@@ -1,6 +1,7 @@
-/* The yardstick: the six calls of leatgarnet.h by hand in C, with the same arguments and answers, once by gcc and once by clang. */
+/* The yardstick: the seven calls of leatgarnet.h by hand in C, with the same arguments and answers, once by gcc and once by clang. */
 #ifndef BASELINE_H
 #define BASELINE_H
+#include "../c/leatgarnet.h" /* for struct lg_answer */
 #include <stddef.h>
 #include <stdint.h>
 
@@ -9,6 +10,10 @@
     uint32_t P##command(uint32_t *restrict state, size_t state_words, const uint8_t *restrict packet, size_t packet_bytes, \
                         uint32_t *restrict image, size_t image_words, uint8_t *restrict reply, size_t reply_bytes, \
                         uint32_t *restrict reply_length); \
+    uint32_t P##commands(uint32_t *restrict state, size_t state_words, const uint8_t *restrict bytes, size_t bytes_length, \
+                         const uint32_t *restrict starts, size_t starts_count, const uint32_t *restrict lengths, size_t lengths_count, \
+                         uint32_t *restrict image, size_t image_words, uint8_t *restrict replies, size_t replies_bytes, \
+                         struct lg_answer *restrict answers, size_t answers_count); \
     uint32_t P##slot(uint32_t *restrict state, size_t state_words, uint32_t tick, const uint32_t *restrict image, size_t image_words, \
                      uint8_t *restrict buffer, size_t buffer_bytes, uint32_t *restrict length); \
     uint32_t P##write_command(const uint32_t *restrict command, size_t command_words, uint8_t *restrict buffer, size_t buffer_bytes, \

@@ -1,4 +1,4 @@
-/* The speed of the library beside the same six calls by hand in C (baseline.c), by gcc and by clang: one program, one run, the same inputs.
+/* The speed of the library beside the same seven calls by hand in C (baseline.c), by gcc and by clang: one program, one run, the same inputs.
  * First the three must agree on every case and on random changes of it; then they are timed in turns. See bench/run. */
 #include "../c/leatgarnet.h"
 #include "baseline.h"
@@ -9,14 +9,17 @@
 #include <ucontext.h>
 
 enum { OURS, GCC, CLANG, EMPTY, LIBRARIES };
-enum kind { START_UP, COMMAND, SLOT, WRITE, READ, READ_PACKET };
-enum { UNIT = 2, POOL_WORDS = 1 << 20, IMAGE_WORDS = POOL_WORDS + 65536, BUFFER_BYTES = 4096, ROUNDS = 41, SMOKE_ROUNDS = 3, MAX_CASES = 64 };
+enum kind { START_UP, COMMAND, BATCH, SLOT, WRITE, READ, READ_PACKET, SINGLES }; /* SINGLES: the items of a batch by single calls */
+enum { UNIT = 2, POOL_WORDS = 1 << 20, IMAGE_WORDS = POOL_WORDS + 65536, BUFFER_BYTES = 4096, ROUNDS = 41, SMOKE_ROUNDS = 3, MAX_CASES = 64,
+       MAX_ITEMS = LG_BATCH_ITEMS + 2 };
 enum { S_POOLS = 49, S_PLACES = 54, S_LAST = 74 };
 
 struct library {
     const char *name;
     uint32_t (*start_up)(const uint32_t *, size_t, uint32_t *, size_t);
     uint32_t (*command)(uint32_t *, size_t, const uint8_t *, size_t, uint32_t *, size_t, uint8_t *, size_t, uint32_t *);
+    uint32_t (*commands)(uint32_t *, size_t, const uint8_t *, size_t, const uint32_t *, size_t, const uint32_t *, size_t, uint32_t *, size_t,
+                         uint8_t *, size_t, struct lg_answer *, size_t);
     uint32_t (*slot)(uint32_t *, size_t, uint32_t, const uint32_t *, size_t, uint8_t *, size_t, uint32_t *);
     uint32_t (*write_command)(const uint32_t *, size_t, uint8_t *, size_t, uint32_t *);
     uint32_t (*read_command)(const uint8_t *, size_t, uint32_t *, size_t);
@@ -29,6 +32,8 @@ struct library {
 static uint32_t no_start_up(U const uint32_t *t, U size_t n, U uint32_t *s, U size_t m) NOTHING
 static uint32_t no_command(U uint32_t *s, U size_t n, U const uint8_t *p, U size_t b, U uint32_t *i, U size_t w, U uint8_t *r, U size_t l,
                            U uint32_t *x) NOTHING
+static uint32_t no_commands(U uint32_t *s, U size_t n, U const uint8_t *p, U size_t b, U const uint32_t *f, U size_t c, U const uint32_t *g,
+                            U size_t d, U uint32_t *i, U size_t w, U uint8_t *r, U size_t l, U struct lg_answer *a, U size_t k) NOTHING
 static uint32_t no_slot(U uint32_t *s, U size_t n, U uint32_t t, U const uint32_t *i, U size_t w, U uint8_t *b, U size_t l,
                         U uint32_t *x) NOTHING
 static uint32_t no_write(U const uint32_t *c, U size_t n, U uint8_t *b, U size_t l, U uint32_t *x) NOTHING
@@ -36,17 +41,18 @@ static uint32_t no_read(U const uint8_t *p, U size_t b, U uint32_t *c, U size_t 
 static uint32_t no_read_packet(U const uint8_t *p, U size_t b, U uint32_t *f, U size_t n, U uint32_t *x) NOTHING
 
 static const struct library libraries[LIBRARIES] = {
-    { "ours", lg_start_up, lg_command, lg_slot, lg_write_command, lg_read_command, lg_read_packet },
-    { "gcc", gcc_start_up, gcc_command, gcc_slot, gcc_write_command, gcc_read_command, gcc_read_packet },
-    { "clang", clang_start_up, clang_command, clang_slot, clang_write_command, clang_read_command, clang_read_packet },
-    { "empty", no_start_up, no_command, no_slot, no_write, no_read, no_read_packet },
+    { "ours", lg_start_up, lg_command, lg_commands, lg_slot, lg_write_command, lg_read_command, lg_read_packet },
+    { "gcc", gcc_start_up, gcc_command, gcc_commands, gcc_slot, gcc_write_command, gcc_read_command, gcc_read_packet },
+    { "clang", clang_start_up, clang_command, clang_commands, clang_slot, clang_write_command, clang_read_command, clang_read_packet },
+    { "empty", no_start_up, no_command, no_commands, no_slot, no_write, no_read, no_read_packet },
 };
 
-/* What a case hands in. `words` is the table, command or field block of the calls that have one; `buffer` the reply or packet buffer. */
+/* What a case hands in. `words` is the table, command or field block of the calls that have one; `buffer` the reply or packet buffer; a batch's bytes
+ * are in `packet`. */
 struct input {
-    uint32_t state[LG_STATE_WORDS], words[LG_TABLE_WORDS];
+    uint32_t state[LG_STATE_WORDS], words[LG_TABLE_WORDS], starts[MAX_ITEMS], lengths[MAX_ITEMS];
     uint8_t packet[BUFFER_BYTES];
-    size_t packet_bytes, image_words, buffer_bytes;
+    size_t packet_bytes, image_words, buffer_bytes, starts_count, lengths_count, answers_count;
 };
 
 struct test {
@@ -57,6 +63,7 @@ struct test {
     double bound;            /* 0: only in a growth table */
     double units;            /* regions, words or blocks of a line of a growth table */
     double bytes, blocks;    /* moved or walked by one call, for the rate */
+    double items;            /* of a batch, for the rate */
     struct input in;
     int changed;             /* words of the state that the call changes, restored before each call */
     uint32_t index[LG_STATE_WORDS], value[LG_STATE_WORDS];
@@ -73,6 +80,7 @@ static uint32_t spare_image[IMAGE_WORDS];
 static struct {
     uint8_t gap[2048 + 64], buffer[BUFFER_BYTES], gap_2[512];
     uint32_t state[LG_STATE_WORDS], words[LG_TABLE_WORDS], length;
+    struct lg_answer answers[MAX_ITEMS];
 } lent __attribute__((aligned(4096)));
 
 static uint64_t seed = 1;
@@ -191,6 +199,28 @@ static struct test *command_case(const char *name, uint32_t regions, uint32_t nu
     return t;
 }
 
+/* 64 commands to such a box, all accepted: sixteen times a dump, a load of 11 words, a load of 5 and the cancel of that dump. */
+static struct test *batch_case(const char *name, enum kind kind, double bound)
+{
+    struct test *t = add(name, kind, 0, bound);
+    struct input *in = &t->in;
+    fresh(in, 4, 4096);
+    busy(in, 1, 0x123, region_start(0), 3000);
+    for (uint32_t i = 0; i < LG_BATCH_ITEMS; i++) {
+        static const uint32_t codes[4] = { 0, 4, 4, 1 }, sizes[4] = { 3000, 11, 5, 0 };
+        const uint32_t words[LG_COMMAND_WORDS] = { codes[i % 4], i, UNIT, 0x321 + i / 4, sizes[i % 4], region_start(i / 4 % 4) + 64 * (i % 4), 0,
+                                                   1, 2, 3, 4, 5, 6, 7, 8, 9, 10, 11 };
+        if (lg_write_command(words, LG_COMMAND_WORDS, in->packet + in->packet_bytes, BUFFER_BYTES - in->packet_bytes, &in->lengths[i]) != 0)
+            abort();
+        in->starts[i] = (uint32_t)in->packet_bytes;
+        in->packet_bytes += in->lengths[i];
+    }
+    in->starts_count = in->lengths_count = in->answers_count = LG_BATCH_ITEMS;
+    in->buffer_bytes = 32 * LG_BATCH_ITEMS;
+    t->items = LG_BATCH_ITEMS;
+    return t;
+}
+
 static struct test *pool_case(const char *name, void (*fill)(uint32_t), uint32_t parameter, double bound)
 {
     struct test *t = add(name, COMMAND, 0, bound);
@@ -254,6 +284,8 @@ static void cases(void)
     t = slot_case("refused: no dump busy, slot (16)", 4, 0, 2);
     memset(t->in.state + S_PLACES, 0, 4 * (S_LAST - S_PLACES));
     t->number = 16;
+    batch_case("batch of 64: dumps, loads and cancels", BATCH, 2);
+    batch_case("64 single calls: the same packets", SINGLES, 2);
     pool_case("pool of 2^20 words, blocks of 1 to 8", small_blocks, 0, 1.2);
     pool_case("pool of 2^20 words, blocks of 32 to 256", middle_blocks, 0, 1.2);
     t = add("command writer, dump", WRITE, 0, 2);
@@ -279,7 +311,24 @@ static void cases(void)
 
 /* ---- Calls ---- */
 
-static inline uint32_t call(const struct library *l, const struct test *t, uint32_t *img)
+static int inside(const struct input *in, uint32_t item)
+{
+    return (uint64_t)in->starts[item] + in->lengths[item] <= in->packet_bytes;
+}
+
+__attribute__((noinline)) static uint32_t singles(const struct library *l, const struct input *in, uint32_t *img)
+{
+    uint32_t all = 0;
+    for (uint32_t i = 0; i < in->starts_count; i++) {
+        int whole = inside(in, i);
+        lent.answers[i].number = l->command(lent.state, LG_STATE_WORDS, whole ? in->packet + in->starts[i] : in->packet, whole ? in->lengths[i] : 0,
+                                            img, in->image_words, lent.buffer + 32 * i, 32, &lent.answers[i].length);
+        all |= lent.answers[i].number;
+    }
+    return all;
+}
+
+__attribute__((always_inline)) static inline uint32_t call(const struct library *l, const struct test *t, uint32_t *img)
 {
     const struct input *in = &t->in;
     switch (t->kind) {
@@ -287,6 +336,10 @@ static inline uint32_t call(const struct library *l, const struct test *t, uint3
     case COMMAND:
         return l->command(lent.state, LG_STATE_WORDS, in->packet, in->packet_bytes, img, in->image_words, lent.buffer, in->buffer_bytes,
                           &lent.length);
+    case BATCH:
+        return l->commands(lent.state, LG_STATE_WORDS, in->packet, in->packet_bytes, in->starts, in->starts_count, in->lengths, in->lengths_count, img,
+                           in->image_words, lent.buffer, in->buffer_bytes, lent.answers, in->answers_count);
+    case SINGLES: return singles(l, in, img);
     case SLOT: return l->slot(lent.state, LG_STATE_WORDS, 5, img, in->image_words, lent.buffer, in->buffer_bytes, &lent.length);
     case WRITE: return l->write_command(in->words, LG_COMMAND_WORDS, lent.buffer, in->buffer_bytes, &lent.length);
     case READ: return l->read_command(in->packet, in->packet_bytes, lent.words, LG_COMMAND_WORDS);
@@ -299,30 +352,39 @@ static void lend(const struct test *t)
     memcpy(lent.state, t->in.state, sizeof lent.state);
     memset(lent.buffer, 0xA5, sizeof lent.buffer);
     memset(lent.words, 0xA5, sizeof lent.words);
+    memset(lent.answers, 0xA5, sizeof lent.answers);
     lent.length = 0xA5A5A5A5;
 }
 
-/* Whether all three leave the same: number, state, image, buffer, blocks and length. The number of ours. */
+static int is_batch(const struct test *t) { return t->kind == BATCH || t->kind == SINGLES; }
+static int may_load(const struct test *t) { return t->kind == COMMAND || is_batch(t); }
+
+/* Whether all three leave the same: number, state, image, buffer, blocks, length and answer records. The number of ours. */
 static uint32_t agree(const struct test *t)
 {
-    static struct { uint8_t buffer[BUFFER_BYTES]; uint32_t state[LG_STATE_WORDS], words[LG_TABLE_WORDS], length; } first;
+    static struct {
+        uint8_t buffer[BUFFER_BYTES];
+        uint32_t state[LG_STATE_WORDS], words[LG_TABLE_WORDS], length;
+        struct lg_answer answers[MAX_ITEMS];
+    } first;
     static uint32_t first_image[IMAGE_WORDS];
-    size_t bytes = 4 * (t->kind == COMMAND ? t->in.image_words : 0);
+    size_t bytes = 4 * (may_load(t) ? t->in.image_words : 0);
     uint32_t number = 0, got;
     for (int l = OURS; l <= CLANG; l++) {
         lend(t);
         memcpy(spare_image, image, bytes);
-        got = call(&libraries[l], t, t->kind == COMMAND ? spare_image : image);
+        got = call(&libraries[l], t, may_load(t) ? spare_image : image);
         if (l == OURS) {
             number = got;
             memcpy(first.buffer, lent.buffer, sizeof first.buffer);
             memcpy(first.state, lent.state, sizeof first.state);
             memcpy(first.words, lent.words, sizeof first.words);
+            memcpy(first.answers, lent.answers, sizeof first.answers);
             first.length = lent.length;
             memcpy(first_image, spare_image, bytes);
         } else if (got != number || memcmp(first.buffer, lent.buffer, sizeof first.buffer) || memcmp(first.state, lent.state, sizeof first.state)
-                   || memcmp(first.words, lent.words, sizeof first.words) || first.length != lent.length
-                   || memcmp(first_image, spare_image, bytes)) {
+                   || memcmp(first.words, lent.words, sizeof first.words) || memcmp(first.answers, lent.answers, sizeof first.answers)
+                   || first.length != lent.length || memcmp(first_image, spare_image, bytes)) {
             printf("DIFFERENT: %s: ours answers %u, %s %u\n", t->name, (unsigned)number, libraries[l].name, (unsigned)got);
             exit(1);
         }
@@ -330,8 +392,33 @@ static uint32_t agree(const struct test *t)
     return number;
 }
 
-/* The case as it is, and then with one to three random changes of the state, the packet or the block; half of the packets get a right check
- * byte. How many of these were tried. */
+static void right_check_byte(uint8_t *packet, size_t bytes)
+{
+    uint8_t all = 0;
+    for (size_t b = 0; b < bytes; b++)
+        all ^= packet[b];
+    if (bytes >= 8)
+        packet[7] ^= (uint8_t)~all;
+}
+
+/* One random change of a batch's starts, lengths or counts. */
+static void change_lists(struct input *in, uint32_t value)
+{
+    uint32_t i = random_below(LG_BATCH_ITEMS), other = random_below(LG_BATCH_ITEMS);
+    switch (random_below(8)) {
+    case 0: in->starts[i] = random_below(2) ? value : in->starts[i] + value; break;
+    case 1: in->lengths[i] = random_below(2) ? value : in->lengths[i] + value; break;
+    case 2: in->starts[i] = in->starts[other], in->lengths[i] = in->lengths[other]; break;
+    case 3: in->starts[i] = 0u - random_below(64), in->lengths[i] = random_below(128); break;
+    case 4: in->starts[i] = (uint32_t)in->packet_bytes - random_below(62), in->lengths[i] = random_below(62); break;
+    case 5: in->starts_count = in->lengths_count = in->answers_count = random_below(MAX_ITEMS + 1); break;
+    case 6: *(random_below(2) ? &in->starts_count : &in->lengths_count) = random_below(4) ? LG_BATCH_ITEMS - 1 : random_below(MAX_ITEMS + 1); break;
+    default: in->answers_count = random_below(2) ? LG_BATCH_ITEMS - 1 : random_below(MAX_ITEMS + 1); break;
+    }
+}
+
+/* The case as it is, and then with one to three random changes of the state, the packet, the block or a batch's lists; half of the packets get a right
+ * check byte. How many of these were tried. */
 static int check(struct test *t, int tries)
 {
     static const uint32_t values[] = { 0, 1, 2, 3, 4, 10, 11, 12, 15, 16, 255, 256, 1016, 2032, 4095, 4096, 16383, 16384, 65535, 65536, 1 << 20,
@@ -356,25 +443,31 @@ static int check(struct test *t, int tries)
     for (int i = 0; i < tries; i++) {
         other = *t;
         for (uint32_t changes = 1 + random_below(3); changes > 0; changes--) {
-            uint32_t *words = t->kind == COMMAND || t->kind == SLOT ? other.in.state : other.in.words;
-            uint32_t bound = t->kind == COMMAND || t->kind == SLOT ? LG_STATE_WORDS : t->kind == START_UP ? LG_TABLE_WORDS : LG_COMMAND_WORDS;
+            int has_state = may_load(t) || t->kind == SLOT;
+            uint32_t *words = has_state ? other.in.state : other.in.words;
+            uint32_t bound = has_state ? LG_STATE_WORDS : t->kind == START_UP ? LG_TABLE_WORDS : LG_COMMAND_WORDS;
             uint32_t *word = words + random_below(bound), v = values[random_below(sizeof values / sizeof values[0])];
-            if (other.in.packet_bytes > 0 && random_below(2)) {
-                uint8_t *byte = other.in.packet + random_below(other.in.packet_bytes < 28 || random_below(9) == 0 ? other.in.packet_bytes : 28);
+            if (is_batch(t) && random_below(2))
+                change_lists(&other.in, v);
+            else if (other.in.packet_bytes > 0 && random_below(2)) {
+                size_t early = other.in.packet_bytes < 28 || is_batch(t) || random_below(9) == 0 ? other.in.packet_bytes : 28;
+                uint8_t *byte = other.in.packet + random_below((uint32_t)early);
                 *byte = (uint8_t)(random_below(2) ? *byte ^ 1u << random_below(8) : random_below(256));
                 if (random_below(20) == 0)
-                    other.in.packet_bytes = random_below(62);
+                    other.in.packet_bytes = random_below(is_batch(t) ? (uint32_t)other.in.packet_bytes : 62);
             } else
                 *word = random_below(2) ? v : random_below(2) ? *word + v : *word - v;
         }
-        if (random_below(2) && other.in.packet_bytes >= 8) {
-            uint8_t all = 0;
-            for (size_t b = 0; b < other.in.packet_bytes; b++)
-                all ^= other.in.packet[b];
-            other.in.packet[7] ^= (uint8_t)~all;
-        }
+        if (random_below(2) && !is_batch(t))
+            right_check_byte(other.in.packet, other.in.packet_bytes);
+        else if (random_below(2) && is_batch(t))
+            for (uint32_t k = 0; k < LG_BATCH_ITEMS; k++)
+                if (inside(&other.in, k))
+                    right_check_byte(other.in.packet + other.in.starts[k], other.in.lengths[k]);
         if (random_below(20) == 0)
             other.in.buffer_bytes -= 1 + random_below(20);
+        if (is_batch(t) && random_below(20) == 0)
+            other.in.image_words--;
         agree(&other);
     }
     return tries;
@@ -469,6 +562,8 @@ static void rate(char *text, size_t size, const struct test *t, double ns)
 {
     if (t->blocks > 0)
         snprintf(text, size, "%.2f ns/block", ns / t->blocks);
+    else if (t->items > 0)
+        snprintf(text, size, "%.2f ns/item", ns / t->items);
     else if (t->bytes >= 1024)
         snprintf(text, size, "%.2f GB/s", t->bytes / ns);
     else
@@ -507,6 +602,16 @@ static void growth(const char *title, const char *unit, int all, const struct te
     }
 }
 
+/* What a batch costs beside its items by single calls; the case after a batch is that of its items. */
+static void batch_table(int listed)
+{
+    printf("\nA batch beside the single calls of its items (best of the rounds)\n\n");
+    printf("| Library | batch, ns | single calls, ns | batch to single calls |\n|---|---|---|---|\n");
+    for (const struct test *t = tests; t + 1 < tests + listed; t++)
+        for (int l = 0; l < EMPTY && t->kind == BATCH; l++)
+            printf("| %s | %.1f | %.1f | %.2f |\n", libraries[l].name, t->best[l], t[1].best[l], t->best[l] / t[1].best[l]);
+}
+
 /* ---- Stack ---- */
 
 static ucontext_t here, there;
@@ -514,7 +619,12 @@ static uint8_t stack[1 << 16];
 static const struct library *stack_library;
 static const struct test *stack_test;
 
-static void on_stack(void) { call(stack_library, stack_test, image); }
+/* The call begins below all that entering and leaving this stack writes to. */
+static void on_stack(void)
+{
+    volatile uint8_t room[1024] = { 0 };
+    sink = call(stack_library, stack_test, image) + room[0];
+}
 
 /* Bytes of a stack of its own that one call writes to. */
 static long stack_bytes(const struct library *l, const struct test *t)
@@ -538,7 +648,7 @@ static long stack_bytes(const struct library *l, const struct test *t)
 
 static void stack_table(int listed)
 {
-    static const char *const names[] = { "start-up", "command", "slot", "command writer", "command reader", "dump packet reader" };
+    static const char *const names[] = { "start-up", "command", "batch", "slot", "command writer", "command reader", "dump packet reader" };
     printf("\nStack: the most bytes that a call of a case wrote to, beyond the empty call's\n\n| Call | ours | gcc | clang |\n|---|---|---|---|\n");
     for (int kind = START_UP; kind <= READ_PACKET; kind++) {
         long most[EMPTY] = { 0 };
@@ -604,6 +714,7 @@ int main(int argc, char **argv)
         report(&tests[i]);
         within += tests[i].ratio <= tests[i].bound;
     }
+    batch_table(listed);
     growth("Slot of 1,016 words against regions, the dump in the last", "Regions", 0, &tests[listed], 5);
     growth("Slot of 1 word against regions, the dump in the last", "Regions", 0, &tests[listed + 5], 5);
     growth("Slot against words, four regions", "Words", 0, &tests[listed + 10], 6);

@@ -1,4 +1,5 @@
-/* A pass through the C interface: start-up, a dump, a load, pool statistics, slots until the dump is whole, refusals, and blocks that are none.
+/* A pass through the C interface: start-up, a dump, a load, pool statistics, slots until the dump is whole, a batch, refusals, and blocks that
+ * are none.
  * It prints what it does, and exits 0 only if all is as expected.
  *   rt staticlib capi && gcc -O2 -Wall -Wextra -o example c/example.c target/staticlib/libcapi.a && ./example */
 #include "leatgarnet.h"
@@ -104,6 +105,64 @@ static void slots(void)
     expect("place idle", state[54], 0);
 }
 
+/* A load, pool statistics, a damaged packet, an item past the end, and pool statistics again, in one call; then two that are refused. */
+static void batch(void)
+{
+    enum { ITEMS = 5, RECORDS = 6 };
+    static const struct lg_answer untouched = { 98, 99 };
+    const uint32_t load[LG_COMMAND_WORDS] = { 4, 5, UNIT, 90, 1, SECOND, 0, 0x80000008 }; /* the pool becomes one used block of eight words */
+    const uint32_t pool[LG_COMMAND_WORDS] = { 7, 6, UNIT, 91 };
+    uint8_t bytes[84], replies[32 * ITEMS + 1], clean[sizeof replies];
+    uint32_t load_bytes, pool_bytes, starts[ITEMS + 1] = { 0 }, lengths[ITEMS + 1] = { 0 }, before[LG_STATE_WORDS];
+    uint32_t accepted = state[77], refused = state[78];
+    struct lg_answer answers[RECORDS];
+
+    printf("-- batch\n");
+    expect("write", lg_write_command(load, LG_COMMAND_WORDS, bytes, sizeof bytes, &load_bytes), 0);
+    expect("write", lg_write_command(pool, LG_COMMAND_WORDS, bytes + load_bytes, sizeof bytes - load_bytes, &pool_bytes), 0);
+    memcpy(bytes + load_bytes + pool_bytes, bytes + load_bytes, pool_bytes);
+    bytes[sizeof bytes - 1] ^= 1;                                          /* the second one's check byte is wrong now */
+    starts[0] = 0, lengths[0] = load_bytes;
+    starts[1] = load_bytes, lengths[1] = pool_bytes;
+    starts[2] = load_bytes + pool_bytes, lengths[2] = pool_bytes;
+    starts[3] = load_bytes + pool_bytes + 1, lengths[3] = pool_bytes;      /* one byte past the end */
+    starts[4] = starts[1], lengths[4] = lengths[1];                        /* the same bytes a second time */
+    memset(replies, 0xA5, sizeof replies), memset(clean, 0xA5, sizeof clean);
+    for (int i = 0; i < RECORDS; i++)
+        answers[i] = untouched;
+
+    expect("bytes", load_bytes + 2 * pool_bytes, sizeof bytes);
+    expect("batch", lg_commands(state, LG_STATE_WORDS, bytes, sizeof bytes, starts, ITEMS, lengths, ITEMS, image, IMAGE_WORDS, replies,
+                                sizeof replies, answers, RECORDS), 0);
+    expect("load", answers[0].number, 0);
+    expect("its reply", answers[0].length, 0);
+    expect("its word", image[2000], 0x80000008);
+    expect("pool statistics", answers[1].number, 0);
+    expect("its reply", answers[1].length, 32);
+    expect("used words", big_endian(replies + 32 + 24), 8);                /* as the load before it left the pool */
+    expect("damaged packet", answers[2].number, 4);
+    expect("its reply", answers[2].length, 0);
+    expect("item past the end", answers[3].number, 4);
+    expect("its reply", answers[3].length, 0);
+    expect("pool statistics again", answers[4].number, 0);
+    expect("its reply", answers[4].length, 32);
+    expect("its packet count", big_endian(replies + 128), big_endian(replies + 32) + 1);
+    expect("record beyond stays", memcmp(&answers[ITEMS], &untouched, sizeof untouched) == 0, 1);
+    expect("reply bytes of no reply stay", memcmp(replies, clean, 32) == 0 && memcmp(replies + 64, clean, 64) == 0 && replies[160] == 0xA5, 1);
+    expect("accepted count", state[77], accepted + 3);
+    expect("refused count", state[78], refused + 2);
+
+    memcpy(before, state, sizeof before);
+    for (int i = 0; i < RECORDS; i++)
+        answers[i] = untouched;
+    expect("lists of unequal length", lg_commands(state, LG_STATE_WORDS, bytes, sizeof bytes, starts, ITEMS, lengths, ITEMS - 1, image, IMAGE_WORDS,
+                                                  replies, sizeof replies, answers, RECORDS), 3);
+    expect("six items, replies for five", lg_commands(state, LG_STATE_WORDS, bytes, sizeof bytes, starts, ITEMS + 1, lengths, ITEMS + 1, image,
+                                                      IMAGE_WORDS, replies, sizeof replies, answers, RECORDS), 3);
+    expect("state left as it was", memcmp(before, state, sizeof before) == 0, 1);
+    expect("records left as they were", memcmp(&answers[0], &untouched, sizeof untouched) == 0, 1);
+}
+
 static void refusals(void)
 {
     const uint32_t no_right[LG_COMMAND_WORDS] = { 4, 4, UNIT, 80, 1, FIRST, 0, 1 };
@@ -136,6 +195,7 @@ int main(void)
     load();
     pool();
     slots();
+    batch();
     refusals();
     printf(failed ? "FAILED\n" : "all as expected\n");
     return failed;

@@ -1,7 +1,7 @@
 /* The C interface of the memory service (paper 01), for x86-64. Nothing is allocated and nothing is kept between calls: all state is in the block
  * that the caller lends. Each call returns a result number of the paper. What a call asks of its caller:
  *   - a pointer and its length say what is lent; a length of 0 lends nothing, and its pointer may be anything;
- *   - words are aligned to 4 bytes;
+ *   - words and answer records are aligned to 4 bytes;
  *   - the pointer to a length that a call sets points to a word;
  *   - no two of all these overlap, the word of a length included.
  * All else is the call's to test: any content, any length. A refusal changes nothing but that length, which becomes 0, a refused count where the
@@ -26,7 +26,7 @@ extern "C" {
  *   77, 78   accepted and refused counts
  * lg_command and lg_slot answer 1 to a block that is no good state: of another length, with a word that its field can't hold (rights over 3, in an
  * entry that is not in use too; busy over 1; an idle place that is not five zeros; unit or last over 255; transaction or a count over 65,535), or
- * with a state that breaks a rule of the paper. */
+ * with a state that breaks a rule of the paper. lg_commands answers 1 so to each of its items. */
 #define LG_STATE_WORDS 79
 
 /* THE TABLE BLOCK, for start-up: 54 words.
@@ -42,6 +42,25 @@ uint32_t lg_start_up(const uint32_t *table, size_t table_words, uint32_t *state,
  * statistics, else 0. */
 uint32_t lg_command(uint32_t *state, size_t state_words, const uint8_t *packet, size_t packet_bytes, uint32_t *image, size_t image_words,
                     uint8_t *reply, size_t reply_bytes, uint32_t *reply_length);
+
+/* What one item of a batch got: its number, as lg_command gives it but never 3, and the bytes of its reply: 32 after pool statistics, else 0. */
+struct lg_answer {
+    uint32_t number, length;
+};
+
+/* The most items of a batch. */
+#define LG_BATCH_ITEMS 64
+
+/* A batch: up to 64 commands in one call, as that many calls of lg_command in their order, refused ones included; each finds the state and the
+ * image as the one before left them. The packet of item i is `lengths[i]` bytes of `bytes` from byte `starts[i]` on; items may overlap. One that
+ * leaves the buffer (start plus length past its end; the sum does not wrap) is an empty packet, not a shortened one. Its reply buffer is bytes 32 i
+ * to 32 i + 31 of `replies`, and record i of `answers`, an array of `answers_count` records, gets its number and reply length.
+ * 3 for over 64 items, `starts_count` other than `lengths_count`, fewer records than items, or `replies` shorter than 32 bytes for each item: before
+ * any other test, and nothing changes. Else 0, whatever the items got; with a block that is no good state each gets 1. Records beyond the items
+ * stay, and so does each byte of `replies` that no item writes. */
+uint32_t lg_commands(uint32_t *state, size_t state_words, const uint8_t *bytes, size_t bytes_length, const uint32_t *starts, size_t starts_count,
+                     const uint32_t *lengths, size_t lengths_count, uint32_t *image, size_t image_words, uint8_t *replies, size_t replies_bytes,
+                     struct lg_answer *answers, size_t answers_count);
 
 /* Numbers 0, 1, 2, 3 and 16. `buffer` has at least 4,092 bytes, else 3. `length` is set to the bytes of the packet in it, 0 if refused. */
 uint32_t lg_slot(uint32_t *state, size_t state_words, uint32_t tick, const uint32_t *image, size_t image_words, uint8_t *buffer,

@@ -129,6 +129,83 @@ static void command(int right)
     give_back(packet), give_back(reply);
 }
 
+static struct lent copy(const void *from, size_t bytes)
+{
+    struct lent b = lend(bytes);
+    memcpy(b.now, from, bytes);
+    return b;
+}
+
+/* The answer and what is left must be those of the items' single calls, made in order on copies of what the batch found. */
+static void one_by_one(size_t n, struct lent all, const uint32_t *starts, const uint32_t *lengths, struct lent replies,
+                       const struct lg_answer *answers)
+{
+    struct lent s = copy(state.before, state.bytes), i = copy(image.before, image.bytes), r = copy(replies.before, replies.bytes);
+    for (size_t k = 0; k < n; k++) {
+        int inside = (uint64_t)starts[k] + lengths[k] <= all.bytes;
+        struct lent packet = inside ? copy((uint8_t *)all.now + starts[k], lengths[k]) : lend(0), reply = copy((uint8_t *)r.now + 32 * k, 32);
+        uint32_t length = 99, number = lg_command(s.now, s.bytes / 4, packet.now, packet.bytes, i.now, i.bytes / 4, reply.now, 32, &length);
+        must(answers[k].number == number && answers[k].length == length);
+        memcpy((uint8_t *)r.now + 32 * k, reply.now, 32);
+        give_back(packet), give_back(reply);
+    }
+    must(memcmp(s.now, state.now, s.bytes) == 0 && memcmp(i.now, image.now, i.bytes) == 0 && memcmp(r.now, replies.now, r.bytes) == 0);
+    give_back(s), give_back(i), give_back(r);
+}
+
+/* Packets as `command` takes them, one behind the other. An item is where its packet is, or where an earlier item is, or it goes past its packet's
+ * end, or its start and length are from the input. */
+static void commands(int right)
+{
+    static uint8_t all[66 * 255];
+    uint32_t start[66], length[66];
+    size_t n = byte() % 67, used = 0;
+    for (size_t i = 0; i < n; i++) {
+        struct lent packet = { all + used, NULL, byte() };
+        for (size_t k = 0; k < packet.bytes; k++)
+            all[used + k] = (uint8_t)byte();
+        if (right)
+            make_right(packet);
+        uint32_t where = byte();
+        start[i] = (uint32_t)used, length[i] = (uint32_t)packet.bytes;
+        used += packet.bytes;
+        if (where >= 240)
+            start[i] = word(), length[i] = word();
+        else if (where >= 224)
+            length[i] += byte();
+        else if (where >= 208 && i > 0) {
+            size_t other = byte() % i;
+            start[i] = start[other], length[i] = length[other];
+        }
+    }
+    struct lent buffer = copy(all, used), starts = lend(4 * near(n)), lengths = lend(4 * near(n));
+    struct lent answers = lend(sizeof(struct lg_answer) * near(n)), replies = lend(near(32 * n));
+    size_t starts_count = starts.bytes / 4, lengths_count = lengths.bytes / 4, answers_count = answers.bytes / sizeof(struct lg_answer);
+    for (size_t i = 0; i < n; i++) {
+        if (i < starts_count)
+            ((uint32_t *)starts.now)[i] = start[i];
+        if (i < lengths_count)
+            ((uint32_t *)lengths.now)[i] = length[i];
+    }
+    keep(buffer), keep(starts), keep(lengths), keep(answers), keep(replies), keep(state), keep(image);
+    uint32_t number = lg_commands(state.now, state.bytes / 4, buffer.now, buffer.bytes, starts.now, starts_count, lengths.now, lengths_count,
+                                  image.now, image.bytes / 4, replies.now, replies.bytes, answers.now, answers_count);
+    size_t items = starts_count;
+    int fits = items <= LG_BATCH_ITEMS && lengths_count == items && answers_count >= items && replies.bytes >= 32 * items;
+    must(number == (fits ? 0 : 3));
+    must(same(buffer) && same(starts) && same(lengths));
+    must(fits || (same(answers) && same(replies) && same(state) && same(image)));
+    if (fits) {
+        const struct lg_answer *a = answers.now, *before = answers.before;
+        for (size_t i = 0; i < items; i++)
+            must(a[i].number <= 15 && a[i].number != 3 && (a[i].length == 0 || (a[i].number == 0 && a[i].length == 32)));
+        must(memcmp(a + items, before + items, answers.bytes - sizeof *a * items) == 0);
+        must(memcmp((uint8_t *)replies.now + 32 * items, (uint8_t *)replies.before + 32 * items, replies.bytes - 32 * items) == 0);
+        one_by_one(items, buffer, starts.now, lengths.now, replies, a);
+    }
+    give_back(buffer), give_back(starts), give_back(lengths), give_back(answers), give_back(replies);
+}
+
 static void slot(void)
 {
     struct lent buffer = lend(near(4092));
@@ -215,8 +292,13 @@ int LLVMFuzzerTestOneInput(const uint8_t *data, size_t size)
 {
     in = data, left = size;
     state = lend(4 * LG_STATE_WORDS), image = lend(0);
-    for (int steps = 0; left && steps < 64; steps++)
-        switch (byte() % 11) {
+    for (int steps = 0; left && steps < 64; steps++) {
+        uint32_t step = byte();
+        if (step >= 231 && step <= 252) { /* two rounds of eleven */
+            commands(step % 2 == 0);
+            continue;
+        }
+        switch (step % 11) {
         case 0: start(); break;
         case 1: command(0); break;
         case 2: command(1); break;
@@ -229,6 +311,7 @@ int LLVMFuzzerTestOneInput(const uint8_t *data, size_t size)
         case 9: poke(); break;
         case 10: other_image(); break;
         }
+    }
     give_back(state), give_back(image);
     return 0;
 }

@@ -1,6 +1,7 @@
-/* Packets for tests/dissector: commands from the writer, dump packets from the slot call, replies from pool statistics, and the same with
- * damaged headers. Each goes to the capture file PCAP, and a line 'kind number bytes count' for each to standard output. As written: 0, its
- * bytes and the sequence count that was put in. Damaged: what our reader answers, its bytes and the sequence count that our reader gives. */
+/* Packets for tests/dissector: commands from the writer, dump packets from the slot call, replies from pool statistics, alone and in a batch,
+ * and the first two with damaged headers. Each goes to the capture file PCAP, and a line 'kind number bytes count' for each to standard
+ * output. As written: 0, its bytes and the sequence count that was put in. Damaged: what our reader answers, its bytes and the sequence
+ * count that our reader gives. */
 #include "../c/leatgarnet.h"
 #include <stdio.h>
 #include <stdlib.h>
@@ -128,6 +129,21 @@ static void replies(void)
     entry("reply", 0, reply, 32, count);
 }
 
+/* Pool statistics in a batch of two, which share their bytes. */
+static void batch_replies(void)
+{
+    uint8_t both[64];
+    struct lg_answer answers[2];
+    uint32_t count = state[75] = below(16384), bytes = command(7, 0, 0);
+    const uint32_t starts[2] = { 0, 0 }, lengths[2] = { bytes, bytes };
+    need(lg_commands(state, LG_STATE_WORDS, packet, bytes, starts, 2, lengths, 2, image, WORDS, both, sizeof both, answers, 2) == 0,
+         "a batch is refused");
+    for (int i = 0; i < 2; i++) {
+        need(answers[i].number == 0 && answers[i].length == 32, "an item of a batch has no reply");
+        entry("reply", 0, both + 32 * i, 32, (count + (uint32_t)i) % 16384);
+    }
+}
+
 int main(int n, char **words)
 {
     const uint32_t table[LG_TABLE_WORDS] = { UNIT, 1, START, WORDS, 0, 0, START, WORDS, 3 };
@@ -136,7 +152,7 @@ int main(int n, char **words)
     put(magic, sizeof magic);
     need(lg_start_up(table, LG_TABLE_WORDS, state, LG_STATE_WORDS) == 0, "start-up is refused");
     for (int i = 0; i < ROUNDS; i++)
-        commands(), dumps(), replies();
+        commands(), dumps(), replies(), batch_replies();
     need(fclose(pcap) == 0, "the capture file cannot be written");
     return 0;
 }

@@ -2,3 +2,4 @@ pub mod Computed
 pub mod Start
 pub mod FromC
 pub mod Ground
+pub mod Batches

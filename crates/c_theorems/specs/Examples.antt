@@ -4,7 +4,11 @@ use mathlib.Core.Path.{_≡_}
 use mathlib.Core.List.{List, [], _∷_, _++_, map}
 use Prim.Native.Nat.{ℕ}
 use lib.ListN.{set, take, drop, replicate}
+use Rattle.rules.specs.declared.Refusal.the-variants.{BufferLength}
+use Rattle.rules.specs.declared.Verdict.the-variants.{Accepted, Rejected}
+use Rattle.batches.specs.Batch.{BatchArgs, lends}
 use Rattle.block.specs.Calls.{CallLeft, lgStartUp, lgSlot, lgCommand}
+use Rattle.lent_command.specs.Batches.{lgCommands}
 use Rattle.capi.specs.Commands.{lgWriteCommand, lgReadCommand, lgReadPacket}
 
 -- unit 2, three regions: at 1000 hex 4 words with load right, at 2000 hex 6 with dump right, at 3000 hex 1,020 with both; pool 0 is the second
@@ -69,6 +73,11 @@ cancelBytes = 0x1E ∷ 0x44 ∷ 0xC0 ∷ 0x05 ∷ 0x00 ∷ 0x03 ∷ 0x01 ∷ 0x6
 abbrev pub poolBytes : List ℕ
 poolBytes = 0x1E ∷ 0x44 ∷ 0xC0 ∷ 0x05 ∷ 0x00 ∷ 0x05 ∷ 0x07 ∷ 0x61 ∷ 0x21 ∷ 0x23 ∷ 0x00 ∷ 0x01 ∷ []
 
+-- a dump at byte 0, pool statistics at byte 16, one byte more than is left, and a length that would wrap
+abbrev pub several : BatchArgs
+several =
+    lends (packet (asked 0 0 0x456 5 0x2004 0) ++ packet (asked 7 0 0x456 9 9 0)) (0 ∷ 16 ∷ 16 ∷ 16 ∷ []) (16 ∷ 12 ∷ 13 ∷ 0xFFFFFFFC ∷ []) image (replicate 129 0xEE)
+
 pub record Examples : Type 0 where
   -- START-UP: the fresh state's words; a word out of its bounds; a block of another length
   pub start : lgStartUp table (replicate 79 5) ≡ record { number = 0; state = box (replicate 20 0) (3 ∷ 0 ∷ 0 ∷ 0 ∷ 0 ∷ []) }
@@ -103,6 +112,24 @@ pub record Examples : Type 0 where
         buffer = 0x03 ∷ 0x11 ∷ 0xC0 ∷ 0x05 ∷ 0x00 ∷ 0x19 ∷ 0x24 ∷ 0x56 ∷ 0x00 ∷ 0x00 ∷ 0x00 ∷ 0x00
             ∷ 0x00 ∷ 0x00 ∷ 0x00 ∷ 0x04 ∷ 0x00 ∷ 0x00 ∷ 0x00 ∷ 0x01 ∷ 0x00 ∷ 0x00 ∷ 0x00 ∷ 0x04 ∷ 0x00 ∷ 0x00 ∷ 0x00 ∷ 0x02 ∷ 0x00 ∷ 0x00 ∷ 0x00 ∷ 0x01 ∷ [];
       }
+  -- A BATCH from that box: a dump, pool statistics, and two items that leave the buffer; a reply buffer and a list with one more of each
+  pub batch-left : lgCommands running several 5
+      ≡ record {
+        verdict = Accepted;
+        left =
+            record {
+              state = box ((1 ∷ 0x456 ∷ 0x2004 ∷ 5 ∷ 0 ∷ []) ++ (1 ∷ 0x123 ∷ 0x3000 ∷ 1020 ∷ 1016 ∷ []) ++ replicate 10 0) (2 ∷ 6 ∷ 6 ∷ 9 ∷ 10 ∷ []);
+              image = image;
+              replies = replicate 32 0xEE ++ sent (asked 7 0 0x456 9 9 0) .buffer ++ replicate 65 0xEE;
+              answers =
+                  record { number = 0; length = 0 } ∷ record { number = 0; length = 32 } ∷ record { number = 4; length = 0 } ∷ record { number = 4; length = 0 } ∷ [];
+            };
+      }
+  -- to a block that is no state each item gets 1; too few records are refused with 3 before that
+  pub batch-no-state : lgCommands (drop 1 running) several 4
+      ≡ record { verdict = Accepted; left = record { state = drop 1 running; image = image; replies = replicate 129 0xEE; answers = replicate 4 (record { number = 1; length = 0 }) } }
+  pub batch-refused : lgCommands (drop 1 running) several 3
+      ≡ record { verdict = Rejected BufferLength; left = record { state = drop 1 running; image = image; replies = replicate 129 0xEE; answers = [] } }
   -- THE COMMAND BLOCK, written: E1 and E3, a cancel and pool statistics; words that the code does not use are 9
   pub write-e1 : lgWriteCommand (asked 0 0 0x123 2 0x1004 9) (replicate 16 7) ≡ record { number = 0; bytes = 16; buffer = e1 }
   pub write-e3 : lgWriteCommand (set (asked 4 1 0xABC 1 0x1000 9) 7 0x01020304) (replicate 60 7) ≡ record { number = 0; bytes = 60; buffer = e3 }

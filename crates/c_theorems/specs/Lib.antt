@@ -1,3 +1,4 @@
 pub mod Examples
 pub mod FromC
 pub mod GroundFromC
+pub mod BatchesFromC

@@ -1,7 +1,14 @@
 // The C interface: the calls of the service over blocks of words that a C caller lends. Its header is c/leatgarnet.h.
 ghost use mathlib.Core.Path.{_≡_};
 ghost use Rattle.block.specs.Calls.{lgStartUp, lgSlot, lgCommand};
+ghost use lib.ListN.{length};
+ghost use Rattle.rules.specs.Results.{verdictNumber};
+ghost use Rattle.batches.specs.Batch.{lends, LeftAs, filled};
+ghost use Rattle.lent_command.specs.Batches.{lgCommands};
 ghost use Rattle.capi.specs.Commands.{lgWriteCommand, lgReadCommand, lgReadPacket};
+use answers::ItemAnswer;
+use answers::number_of;
+use answers::put_records;
 use block::put_run;
 use command_reader::put_beside;
 use command_reader::reading_of;
@@ -10,6 +17,7 @@ use ground_blocks::command_in;
 use ground_blocks::field_words;
 use ground_blocks::head_words;
 use ground_blocks::header_in;
+use lent_command::answered;
 use lent_command::command;
 use lent_slot::slot;
 use lent_state::start_up;
@@ -57,6 +65,26 @@ pub extern "C" fn lg_command(
     ensures { λ n. ⌜ (n ≡ lgCommand (now (state .entry)) (now (packet .entry)) (now (image .entry)) (now (reply .entry)) .number) × (now (state .exit) ≡ lgCommand (now (state .entry)) (now (packet .entry)) (now (image .entry)) (now (reply .entry)) .state) × (now (image .exit) ≡ lgCommand (now (state .entry)) (now (packet .entry)) (now (image .entry)) (now (reply .entry)) .image) × (now (reply .exit) ≡ lgCommand (now (state .entry)) (now (packet .entry)) (now (image .entry)) (now (reply .entry)) .buffer) × (now (bytes .exit) ≡ lgCommand (now (state .entry)) (now (packet .entry)) (now (image .entry)) (now (reply .entry)) .bytes) ⌝ }
 {
     command(state, packet, image, reply, bytes)
+}
+
+#[no_mangle]
+pub extern "C" fn lg_commands(
+    state: &mut [u32],
+    bytes: &[u8],
+    starts: &[u32],
+    lengths: &[u32],
+    image: &mut [u32],
+    replies: &mut [u8],
+    answers: &mut [ItemAnswer],
+) -> u32
+    ensures { λ n. ⌜
+        (n ≡ verdictNumber (lgCommands (now (state .entry)) (lends (now (bytes .entry)) (now (starts .entry)) (now (lengths .entry)) (now (image .entry)) (now (replies .entry))) (length (now (answers .entry))) .verdict))
+        × LeftAs (lgCommands (now (state .entry)) (lends (now (bytes .entry)) (now (starts .entry)) (now (lengths .entry)) (now (image .entry)) (now (replies .entry))) (length (now (answers .entry)))) (now (state .exit)) (now (image .exit)) (now (replies .exit))
+        × (now (answers .exit) ≡ filled (now (answers .entry)) (lgCommands (now (state .entry)) (lends (now (bytes .entry)) (now (starts .entry)) (now (lengths .entry)) (now (image .entry)) (now (replies .entry))) (length (now (answers .entry))) .left .answers)) ⌝ }
+{
+    let a = answered(state, bytes, starts, lengths, image, replies, answers.len());
+    put_records(answers, a);
+    number_of(a)
 }
 
 // THE COMMAND WRITER

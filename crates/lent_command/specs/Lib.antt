@@ -1,1 +1,2 @@
 pub mod OnBlock
+pub mod Batches

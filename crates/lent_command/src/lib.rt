@@ -1,15 +1,23 @@
 // The command call on a block of words: the facts from the words, the decision, and the words that change.
 ghost use mathlib.Core.Path.{_≡_};
-ghost use mathlib.Core.Bool.{true, _&&_};
+ghost use mathlib.Core.Bool.{true, false, _&&_};
 ghost use mathlib.Core.List.{List};
-ghost use Prim.Native.Nat.{ℕ};
-ghost use lib.ListN.{length};
+ghost use Prim.Native.Nat.{ℕ, _+_, _*_, _≤_, _<_, min};
+ghost use lib.ListN.{length, set, take, drop};
+ghost use Rattle.lists.specs.Splice.{splice};
+ghost use Rattle.rules.specs.Results.{verdictNumber};
 ghost use Rattle.rules.specs.States.{goodState};
 ghost use Rattle.rules.specs.declared.Reading.the-variants.{Read};
 ghost use Rattle.block.specs.Blocks.{stateOf, isBlock};
-ghost use Rattle.block.specs.Calls.{lgCommand};
+ghost use Rattle.block.specs.Calls.{goodWords, lgCommand};
+ghost use Rattle.batches.specs.Batch.{lends, unfitBy, leftBy, LeftAs, filled, numbersOf, lengthsOf, Answers};
+ghost use Rattle.lent_command.specs.Batches.{onBlock, lgCommands};
 ghost use Rattle.decide.specs.Decisions.{find, byReading};
 ghost use Rattle.lent_command.specs.OnBlock.{decisionOn, blockAfter};
+use answers::Answered;
+use batches::batch_verdict;
+use batches::bytes_from;
+use batches::lesser;
 use block::raise;
 use block::range_in;
 use block::word_at;
@@ -30,12 +38,14 @@ use lent_regions::find_region;
 use lent_state::good_words;
 use regions::Found;
 use results::hand_over;
+use results::verdict_number;
 use rules::Command;
 use rules::Context;
 use rules::Header;
 use rules::Range;
 use rules::Reading;
 use rules::Telecommand;
+use rules::Verdict;
 
 fn find(b: &[u32], a: Range) -> Found
     requires { ⌜ (isBlock (now b) && goodState (stateOf (now b))) ≡ true ⌝ }
@@ -74,12 +84,13 @@ fn by_command(b: &[u32], f: Telecommand, image: &[u32]) -> Decision
     }
 }
 
-// The decision on a packet: what the call would do.
-fn decide(b: &[u32], packet: &[u8], image: &[u32], reply: usize) -> Decision
+// The decision on a packet: what the call would do. `words` is what the good test says of the block.
+fn decide(b: &[u32], words: usize, packet: &[u8], image: &[u32], reply: usize) -> Decision
+    requires { ⌜ words ≡ goodWords (now b) ⌝ }
     ensures { λ d. ⌜ ((bytes : List ℕ) → length bytes ≡ reply → d ≡ decisionOn (now (b .entry)) (record { packet = now (packet .entry); image = now (image .entry); reply = bytes })) ⌝ }
 {
     let unit = (word_at(b, 53) % 256) as u8;
-    let opened = opened(good_words(b), image.len(), reply, packet, unit);
+    let opened = opened(words, image.len(), reply, packet, unit);
     match opened {
         Reading::Unread(r) => Decision::Refuse(r),
         Reading::Read(f) => by_command(b, f, image),
@@ -113,7 +124,30 @@ fn apply(b: &mut [u32], d: Decision)
     }
 }
 
-// The command call: its number, and in `bytes` the length of the reply.
+// The command call on a block that was tested: its number, and in `bytes` the length of the reply.
+fn tested(
+    b: &mut [u32],
+    words: usize,
+    packet: &[u8],
+    image: &mut [u32],
+    reply: &mut [u8],
+    bytes: &mut u32,
+) -> u32
+    requires { ⌜ words ≡ goodWords (now b) ⌝ }
+    ensures { λ n. ⌜
+        (n ≡ lgCommand (now (b .entry)) (now (packet .entry)) (now (image .entry)) (now (reply .entry)) .number)
+        × (now (b .exit) ≡ lgCommand (now (b .entry)) (now (packet .entry)) (now (image .entry)) (now (reply .entry)) .state)
+        × (now (image .exit) ≡ lgCommand (now (b .entry)) (now (packet .entry)) (now (image .entry)) (now (reply .entry)) .image)
+        × (now (reply .exit) ≡ lgCommand (now (b .entry)) (now (packet .entry)) (now (image .entry)) (now (reply .entry)) .buffer)
+        × (now (bytes .exit) ≡ lgCommand (now (b .entry)) (now (packet .entry)) (now (image .entry)) (now (reply .entry)) .bytes) ⌝ }
+{
+    let d = decide(b, words, packet, image, reply.len());
+    write_out(d, packet, image, reply);
+    apply(b, d);
+    hand_over(answer_of(d), bytes)
+}
+
+// The command call.
 pub fn command(
     b: &mut [u32],
     packet: &[u8],
@@ -128,8 +162,128 @@ pub fn command(
         × (now (reply .exit) ≡ lgCommand (now (b .entry)) (now (packet .entry)) (now (image .entry)) (now (reply .entry)) .buffer)
         × (now (bytes .exit) ≡ lgCommand (now (b .entry)) (now (packet .entry)) (now (image .entry)) (now (reply .entry)) .bytes) ⌝ }
 {
-    let d = decide(b, packet, image, reply.len());
-    write_out(d, packet, image, reply);
-    apply(b, d);
-    hand_over(answer_of(d), bytes)
+    let words = good_words(b);
+    tested(b, words, packet, image, reply, bytes)
+}
+
+// A BATCH: the single calls in order. The state is tested once, since a command leaves a good state good and any other as it was.
+
+// Item i, whose number and reply length go to the two lists.
+fn item(
+    b: &mut [u32],
+    words: usize,
+    packet: &[u8],
+    image: &mut [u32],
+    replies: &mut [u8],
+    numbers: &mut [u8],
+    sizes: &mut [u8],
+    i: usize,
+)
+    requires { ⌜ (words ≡ goodWords (now b)) × (32 * i + 32 ≤ length (now replies)) × (i < length (now numbers)) × (i < length (now sizes)) ⌝ }
+    ensures { λ _. ⌜
+        (now (b .exit) ≡ onBlock (now (b .entry)) (record { packet = now (packet .entry); image = now (image .entry); reply = take 32 (drop (32 * i) (now (replies .entry))) }) .state)
+        × (now (image .exit) ≡ onBlock (now (b .entry)) (record { packet = now (packet .entry); image = now (image .entry); reply = take 32 (drop (32 * i) (now (replies .entry))) }) .image)
+        × (now (replies .exit) ≡ splice (now (replies .entry)) (32 * i) (onBlock (now (b .entry)) (record { packet = now (packet .entry); image = now (image .entry); reply = take 32 (drop (32 * i) (now (replies .entry))) }) .reply))
+        × (now (numbers .exit) ≡ set (now (numbers .entry)) i (onBlock (now (b .entry)) (record { packet = now (packet .entry); image = now (image .entry); reply = take 32 (drop (32 * i) (now (replies .entry))) }) .number))
+        × (now (sizes .exit) ≡ set (now (sizes .entry)) i (onBlock (now (b .entry)) (record { packet = now (packet .entry); image = now (image .entry); reply = take 32 (drop (32 * i) (now (replies .entry))) }) .length))
+        × (goodWords (now (b .exit)) ≡ goodWords (now (b .entry))) ⌝ }
+{
+    let mut bytes: u32 = 0;
+    let from = 32 * i;
+    let end = from + 32;
+    let n = tested(b, words, packet, image, &mut replies[from..end], &mut bytes);
+    numbers[i] = (n % 256) as u8;
+    sizes[i] = (bytes % 256) as u8;
+}
+
+// The items in order.
+fn run(
+    b: &mut [u32],
+    bytes: &[u8],
+    starts: &[u32],
+    lengths: &[u32],
+    image: &mut [u32],
+    replies: &mut [u8],
+    numbers: &mut [u8],
+    sizes: &mut [u8],
+)
+    requires { ⌜ unfitBy (length (now starts)) (length (now lengths)) (min (length (now numbers)) (length (now sizes))) (length (now replies)) ≡ false ⌝ }
+    ensures { λ _. ⌜
+        (now (b .exit) ≡ leftBy onBlock (lends (now (bytes .entry)) (now (starts .entry)) (now (lengths .entry)) (now (image .entry)) (now (replies .entry))) (now (b .entry)) (length (now (starts .entry))) .state)
+        × (now (image .exit) ≡ leftBy onBlock (lends (now (bytes .entry)) (now (starts .entry)) (now (lengths .entry)) (now (image .entry)) (now (replies .entry))) (now (b .entry)) (length (now (starts .entry))) .image)
+        × (now (replies .exit) ≡ leftBy onBlock (lends (now (bytes .entry)) (now (starts .entry)) (now (lengths .entry)) (now (image .entry)) (now (replies .entry))) (now (b .entry)) (length (now (starts .entry))) .replies)
+        × (now (numbers .exit) ≡ filled (now (numbers .entry)) (numbersOf (leftBy onBlock (lends (now (bytes .entry)) (now (starts .entry)) (now (lengths .entry)) (now (image .entry)) (now (replies .entry))) (now (b .entry)) (length (now (starts .entry))) .answers)))
+        × (now (sizes .exit) ≡ filled (now (sizes .entry)) (lengthsOf (leftBy onBlock (lends (now (bytes .entry)) (now (starts .entry)) (now (lengths .entry)) (now (image .entry)) (now (replies .entry))) (now (b .entry)) (length (now (starts .entry))) .answers))) ⌝ }
+{
+    let words = good_words(b);
+    let mut i: usize = 0;
+    while i < starts.len() {
+        let packet = bytes_from(bytes, starts[i], lengths[i]);
+        item(b, words, packet, image, replies, numbers, sizes, i);
+        i += 1;
+    }
+}
+
+// The batch, with each item's number and reply length in two lists.
+pub fn commands(
+    b: &mut [u32],
+    bytes: &[u8],
+    starts: &[u32],
+    lengths: &[u32],
+    image: &mut [u32],
+    replies: &mut [u8],
+    numbers: &mut [u8],
+    sizes: &mut [u8],
+) -> Verdict
+    ensures { λ v. ⌜
+        (v ≡ lgCommands (now (b .entry)) (lends (now (bytes .entry)) (now (starts .entry)) (now (lengths .entry)) (now (image .entry)) (now (replies .entry))) (min (length (now (numbers .entry))) (length (now (sizes .entry)))) .verdict)
+        × LeftAs (lgCommands (now (b .entry)) (lends (now (bytes .entry)) (now (starts .entry)) (now (lengths .entry)) (now (image .entry)) (now (replies .entry))) (min (length (now (numbers .entry))) (length (now (sizes .entry))))) (now (b .exit)) (now (image .exit)) (now (replies .exit))
+        × (now (numbers .exit) ≡ filled (now (numbers .entry)) (numbersOf (lgCommands (now (b .entry)) (lends (now (bytes .entry)) (now (starts .entry)) (now (lengths .entry)) (now (image .entry)) (now (replies .entry))) (min (length (now (numbers .entry))) (length (now (sizes .entry)))) .left .answers)))
+        × (now (sizes .exit) ≡ filled (now (sizes .entry)) (lengthsOf (lgCommands (now (b .entry)) (lends (now (bytes .entry)) (now (starts .entry)) (now (lengths .entry)) (now (image .entry)) (now (replies .entry))) (min (length (now (numbers .entry))) (length (now (sizes .entry)))) .left .answers))) ⌝ }
+{
+    let records = lesser(numbers.len(), sizes.len());
+    let verdict = batch_verdict(starts.len(), lengths.len(), records, replies.len());
+    match verdict {
+        Verdict::Rejected(_) => {}
+        Verdict::Accepted => run(b, bytes, starts, lengths, image, replies, numbers, sizes),
+    }
+    verdict
+}
+
+// The batch, with the answers by value for a list of so many records.
+pub fn answered(
+    b: &mut [u32],
+    bytes: &[u8],
+    starts: &[u32],
+    lengths: &[u32],
+    image: &mut [u32],
+    replies: &mut [u8],
+    records: usize,
+) -> Answered
+    ensures { λ a. ⌜
+        (a .number ≡ verdictNumber (lgCommands (now (b .entry)) (lends (now (bytes .entry)) (now (starts .entry)) (now (lengths .entry)) (now (image .entry)) (now (replies .entry))) records .verdict))
+        × Answers a records (lgCommands (now (b .entry)) (lends (now (bytes .entry)) (now (starts .entry)) (now (lengths .entry)) (now (image .entry)) (now (replies .entry))) records .left .answers)
+        × LeftAs (lgCommands (now (b .entry)) (lends (now (bytes .entry)) (now (starts .entry)) (now (lengths .entry)) (now (image .entry)) (now (replies .entry))) records) (now (b .exit)) (now (image .exit)) (now (replies .exit)) ⌝ }
+{
+    let mut numbers: [u8; 64] = [0; 64];
+    let mut sizes: [u8; 64] = [0; 64];
+    let room = lesser(records, 64);
+    let verdict = commands(
+        b,
+        bytes,
+        starts,
+        lengths,
+        image,
+        replies,
+        &mut numbers[..room],
+        &mut sizes[..room],
+    );
+    let number = verdict_number(verdict);
+    let filled = if number == 0 { starts.len() } else { 0 };
+    Answered {
+        number,
+        numbers,
+        lengths: sizes,
+        filled,
+    }
 }

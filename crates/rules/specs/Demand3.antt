@@ -194,14 +194,19 @@ abbrev pub SameTable : List Region → ℕ → List Event → Type 0
 SameTable rs n es =
     (xs ys : List Event) (e : Event) → es ≡ xs ++ e ∷ ys → (e .given .regions ≡ entriesUsed rs n) × (e .given .count ≡ n)
 
+-- the claim about the events of a whole list of calls, from the state that start-up gave for a table of n regions
+abbrev pub NoneWaits : List Region → ℕ → List Event → Type 0
+NoneWaits rs n es =
+    ((r : Range) → pieceWords r ≡ 1016)
+    × SameTable rs n es
+    × ((before after : List Event) (e : Event) (t : ℕ) (r : Range)
+    → es ≡ before ++ e ∷ after
+    → Accepted t r e
+    → Uncancelled t (packetsDue r) after
+    → Served t r after × Covers r)
+
 abbrev pub Demand3 : Type 0
 Demand3 =
     (rs : List Region) (n : ℕ) (pools : List Range) (unit : ℕ) → verdictNumber (startUp rs n pools unit .verdict) ≡ 0
     → (calls : List Call) → LendsBytes calls
-    → ((r : Range) → pieceWords r ≡ 1016)
-    × SameTable rs n (events (startUp rs n pools unit .state) calls)
-    × ((before after : List Event) (e : Event) (t : ℕ) (r : Range)
-    → events (startUp rs n pools unit .state) calls ≡ before ++ e ∷ after
-    → Accepted t r e
-    → Uncancelled t (packetsDue r) after
-    → Served t r after × Covers r)
+    → NoneWaits rs n (events (startUp rs n pools unit .state) calls)

@@ -1,6 +1,6 @@
 //! The C functions of leatgarnet.h answered by the model itself: for feature `self`, and for the trial libraries of mutants.py, which export them.
 
-use crate::door::by_model;
+use crate::door::{by_model, Answer};
 
 unsafe fn borrowed<'a, T>(pointer: *const T, length: usize) -> &'a [T] {
     if length == 0 {
@@ -46,6 +46,37 @@ pub unsafe extern "C" fn lg_command(
         borrowed_mut(image, image_words),
         borrowed_mut(reply, reply_bytes),
         &mut *reply_length,
+    )
+}
+
+/// # Safety
+/// As leatgarnet.h says.
+#[allow(clippy::too_many_arguments)]
+#[cfg_attr(feature = "export", no_mangle)]
+pub unsafe extern "C" fn lg_commands(
+    state: *mut u32,
+    state_words: usize,
+    bytes: *const u8,
+    bytes_length: usize,
+    starts: *const u32,
+    starts_count: usize,
+    lengths: *const u32,
+    lengths_count: usize,
+    image: *mut u32,
+    image_words: usize,
+    replies: *mut u8,
+    replies_bytes: usize,
+    answers: *mut Answer,
+    answers_count: usize,
+) -> u32 {
+    by_model::commands(
+        borrowed_mut(state, state_words),
+        borrowed(bytes, bytes_length),
+        borrowed(starts, starts_count),
+        borrowed(lengths, lengths_count),
+        borrowed_mut(image, image_words),
+        borrowed_mut(replies, replies_bytes),
+        borrowed_mut(answers, answers_count),
     )
 }
 

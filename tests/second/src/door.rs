@@ -12,6 +12,14 @@ pub const TABLE_WORDS: usize = 54;
 pub const COMMAND_WORDS: usize = 18;
 pub const PACKET_WORDS: usize = 8;
 
+/// `struct lg_answer`.
+#[repr(C)]
+#[derive(Clone, Copy, PartialEq, Eq, Debug)]
+pub struct Answer {
+    pub number: u32,
+    pub length: u32,
+}
+
 // ------------------------------------------------------------------------------------------------------------------------------------
 // Packing
 // ------------------------------------------------------------------------------------------------------------------------------------
@@ -218,6 +226,31 @@ pub mod by_model {
         }
     }
 
+    pub fn commands(
+        state: &mut [u32],
+        bytes: &[u8],
+        starts: &[u32],
+        lengths: &[u32],
+        image: &mut [u32],
+        replies: &mut [u8],
+        answers: &mut [Answer],
+    ) -> u32 {
+        if batch_is_refused(starts.len(), lengths.len(), answers.len(), replies.len()) {
+            return 3;
+        }
+        match unpack_state(state) {
+            None => answers[..starts.len()].fill(Answer { number: 1, length: 0 }),
+            Some(before) => {
+                let batch = batch_call(&before, bytes, starts, lengths, image, replies);
+                state.copy_from_slice(&pack_state(&batch.state));
+                for (record, item) in answers.iter_mut().zip(&batch.answers) {
+                    *record = Answer { number: item.number, length: item.reply_length };
+                }
+            }
+        }
+        0
+    }
+
     pub fn slot(state: &mut [u32], tick: u32, image: &[u32], buffer: &mut [u8], length: &mut u32) -> u32 {
         *length = 0;
         match unpack_state(state) {
@@ -286,6 +319,8 @@ compile_error!("take one of the features `door` and `self`, not both");
 
 #[cfg(feature = "door")]
 mod c {
+    use super::Answer;
+
     extern "C" {
         pub fn lg_start_up(table: *const u32, table_words: usize, state: *mut u32, state_words: usize) -> u32;
         pub fn lg_command(
@@ -298,6 +333,22 @@ mod c {
             reply: *mut u8,
             reply_bytes: usize,
             reply_length: *mut u32,
+        ) -> u32;
+        pub fn lg_commands(
+            state: *mut u32,
+            state_words: usize,
+            bytes: *const u8,
+            bytes_length: usize,
+            starts: *const u32,
+            starts_count: usize,
+            lengths: *const u32,
+            lengths_count: usize,
+            image: *mut u32,
+            image_words: usize,
+            replies: *mut u8,
+            replies_bytes: usize,
+            answers: *mut Answer,
+            answers_count: usize,
         ) -> u32;
         pub fn lg_slot(
             state: *mut u32,
@@ -325,11 +376,11 @@ mod c {
 use crate::answer as c;
 
 #[cfg(any(feature = "door", feature = "self"))]
-pub use wrappers::{command, read_command, read_packet, slot, start_up, write_command};
+pub use wrappers::{command, commands, read_command, read_packet, slot, start_up, write_command};
 
 #[cfg(any(feature = "door", feature = "self"))]
 mod wrappers {
-    use super::c;
+    use super::{c, Answer};
     use std::cell::Cell;
 
     thread_local!(static TURN: Cell<usize> = const { Cell::new(0) });
@@ -358,7 +409,7 @@ mod wrappers {
         }
     }
 
-    // SAFETY, of all six: each pointer comes with the length of the slice that it comes from, the slices do not overlap (the borrow rules), and
+    // SAFETY, of all seven: each pointer comes with the length of the slice that it comes from, the slices do not overlap (the borrow rules), and
     // the C functions keep no pointer.
 
     pub fn start_up(table: &[u32], state: &mut [u32]) -> u32 {
@@ -377,6 +428,35 @@ mod wrappers {
                 lent_mut(reply),
                 reply.len(),
                 reply_length,
+            )
+        }
+    }
+
+    pub fn commands(
+        state: &mut [u32],
+        bytes: &[u8],
+        starts: &[u32],
+        lengths: &[u32],
+        image: &mut [u32],
+        replies: &mut [u8],
+        answers: &mut [Answer],
+    ) -> u32 {
+        unsafe {
+            c::lg_commands(
+                lent_mut(state),
+                state.len(),
+                lent(bytes),
+                bytes.len(),
+                lent(starts),
+                starts.len(),
+                lent(lengths),
+                lengths.len(),
+                lent_mut(image),
+                image.len(),
+                lent_mut(replies),
+                replies.len(),
+                lent_mut(answers),
+                answers.len(),
             )
         }
     }

@@ -9,8 +9,8 @@ mod rng;
 use account::{Account, Sums};
 use make::*;
 use rng::Rng;
-use second::door::{self, by_model, COMMAND_WORDS};
-use second::model::{DumpPlace, Setup, State};
+use second::door::{self, by_model, Answer, COMMAND_WORDS};
+use second::model::{command_call, DumpPlace, Setup, State};
 use std::process::exit;
 
 const DEFAULT_CALLS: u64 = 200_000;
@@ -28,6 +28,9 @@ struct Outcome {
     words: Vec<u32>,
     fixed: Vec<u32>,
     packet: Vec<u8>,
+    starts: Vec<u32>,
+    lengths: Vec<u32>,
+    answers: Vec<Answer>,
     image: Vec<u32>,
     buffer: Vec<u8>,
     /// The name of a lent part next to which something was written.
@@ -41,6 +44,9 @@ fn ask_model(call: &Call) -> Outcome {
         words: call.words.clone(),
         fixed: call.fixed.clone(),
         packet: call.packet.clone(),
+        starts: call.starts.clone(),
+        lengths: call.lengths.clone(),
+        answers: call.answers.clone(),
         image: call.image.clone(),
         buffer: call.buffer.clone(),
         overrun: "",
@@ -48,6 +54,9 @@ fn ask_model(call: &Call) -> Outcome {
     o.number = match call.kind {
         Kind::StartUp => by_model::start_up(&o.fixed, &mut o.words),
         Kind::Command => by_model::command(&mut o.words, &o.packet, &mut o.image, &mut o.buffer, &mut o.length),
+        Kind::Batch => {
+            by_model::commands(&mut o.words, &o.packet, &o.starts, &o.lengths, &mut o.image, &mut o.buffer, &mut o.answers)
+        }
         Kind::Slot => by_model::slot(&mut o.words, call.tick, &o.image, &mut o.buffer, &mut o.length),
         Kind::WriteCommand => by_model::write_command(&o.fixed, &mut o.buffer, &mut o.length),
         Kind::ReadCommand => by_model::read_command(&o.packet, &mut o.words),
@@ -95,12 +104,24 @@ fn ask_door(call: &Call) -> Outcome {
     let mut words = Guarded::new(&call.words, 0xC0DE_D00D);
     let mut fixed = Guarded::new(&call.fixed, 0xC0DE_D00D);
     let mut packet = Guarded::new(&call.packet, 0xD7);
+    let mut starts = Guarded::new(&call.starts, 0xC0DE_D00D);
+    let mut lengths = Guarded::new(&call.lengths, 0xC0DE_D00D);
+    let mut answers = Guarded::new(&call.answers, Answer { number: 0xC0DE_D00D, length: 0xC0DE_D00D });
     let mut image = Guarded::new(&call.image, 0xC0DE_D00D);
     let mut buffer = Guarded::new(&call.buffer, 0xD7);
     let mut length = call.length;
     let number = match call.kind {
         Kind::StartUp => door::start_up(fixed.part(), words.part()),
         Kind::Command => door::command(words.part(), packet.part(), image.part(), buffer.part(), &mut length),
+        Kind::Batch => door::commands(
+            words.part(),
+            packet.part(),
+            starts.part(),
+            lengths.part(),
+            image.part(),
+            buffer.part(),
+            answers.part(),
+        ),
         Kind::Slot => door::slot(words.part(), call.tick, image.part(), buffer.part(), &mut length),
         Kind::WriteCommand => door::write_command(fixed.part(), buffer.part(), &mut length),
         Kind::ReadCommand => door::read_command(packet.part(), words.part()),
@@ -111,6 +132,9 @@ fn ask_door(call: &Call) -> Outcome {
         ("block", words.broken()),
         ("read-only block", fixed.broken()),
         ("packet", packet.broken()),
+        ("starts", starts.broken()),
+        ("lengths", lengths.broken()),
+        ("answer records", answers.broken()),
         ("image", image.broken()),
         ("buffer", buffer.broken()),
     ] {
@@ -124,6 +148,9 @@ fn ask_door(call: &Call) -> Outcome {
         words: words.take(),
         fixed: fixed.take(),
         packet: packet.take(),
+        starts: starts.take(),
+        lengths: lengths.take(),
+        answers: answers.take(),
         image: image.take(),
         buffer: buffer.take(),
         overrun,
@@ -141,6 +168,11 @@ fn first_difference<T: PartialEq + std::fmt::LowerHex>(name: &str, model: &[T], 
     Some(format!("{name}, element {at}: model {:x}, library {:x}", model[at], door[at]))
 }
 
+/// Answer records as words: number and length of the first, of the second, and so on.
+fn record_words(answers: &[Answer]) -> Vec<u32> {
+    answers.iter().flat_map(|answer| [answer.number, answer.length]).collect()
+}
+
 fn difference(model: &Outcome, door: &Outcome) -> Option<String> {
     if model.number != door.number {
         return Some(format!("number: model {}, library {}", model.number, door.number));
@@ -151,11 +183,42 @@ fn difference(model: &Outcome, door: &Outcome) -> Option<String> {
     if !door.overrun.is_empty() {
         return Some(format!("the library wrote beside the {}", door.overrun));
     }
-    first_difference("block", &model.words, &door.words)
+    first_difference("answer records, as words", &record_words(&model.answers), &record_words(&door.answers))
+        .or_else(|| first_difference("block", &model.words, &door.words))
         .or_else(|| first_difference("image", &model.image, &door.image))
         .or_else(|| first_difference("buffer", &model.buffer, &door.buffer))
         .or_else(|| first_difference("read-only block", &model.fixed, &door.fixed))
         .or_else(|| first_difference("packet", &model.packet, &door.packet))
+        .or_else(|| first_difference("starts", &model.starts, &door.starts))
+        .or_else(|| first_difference("lengths", &model.lengths, &door.lengths))
+}
+
+/// The packet of item i of a batch; empty if it leaves the buffer.
+fn item_of(call: &Call, i: usize) -> &[u8] {
+    let start = u64::from(call.starts[i]);
+    let end = start + u64::from(call.lengths[i]);
+    if end <= call.packet.len() as u64 {
+        &call.packet[start as usize..end as usize]
+    } else {
+        &[]
+    }
+}
+
+/// "It equals the single calls made in order, refused ones included": the items of a batch answered 0, one by one through the library's command
+/// call, beside what the library's batch left.
+fn one_by_one(call: &Call, batch: &Outcome) -> Option<String> {
+    let mut words = call.words.clone();
+    let mut image = call.image.clone();
+    let mut replies = call.buffer.clone();
+    for i in 0..call.starts.len() {
+        let mut length = 99;
+        let number = door::command(&mut words, item_of(call, i), &mut image, &mut replies[32 * i..32 * i + 32], &mut length);
+        if (Answer { number, length }) != batch.answers[i] {
+            return Some(format!("item {i}: alone {number} and length {length}, in the batch {:?}", batch.answers[i]));
+        }
+    }
+    let same = words == batch.words && image == batch.image && replies == batch.buffer;
+    (!same).then(|| "the batch does not leave what its items leave one by one".to_string())
 }
 
 // ------------------------------------------------------------------------------------------------------------------------------------
@@ -200,8 +263,10 @@ struct Run {
     calls: u64,
     unused: Option<Unused>,
     /// [kind][number]
-    table: [[u64; 18]; 6],
-    /// Commands answered 0 by function code.
+    table: [[u64; 18]; KINDS.len()],
+    /// Items of batches by number.
+    items: [u64; 18],
+    /// Commands answered 0 by function code, items of batches included.
     done: [u64; 4],
     sums: Sums,
 }
@@ -232,6 +297,11 @@ fn print_call(call: &Call) {
     println!("  block, {} words:{}", call.words.len(), hex_words(&call.words));
     println!("  read-only block, {} words:{}", call.fixed.len(), hex_words(&call.fixed));
     println!("  packet, {} bytes:{}", call.packet.len(), hex_bytes(shown(&call.packet)));
+    if call.kind == Kind::Batch {
+        println!("  starts, {}:{}", call.starts.len(), hex_words(&call.starts));
+        println!("  lengths, {}:{}", call.lengths.len(), hex_words(&call.lengths));
+        println!("  answer records, {}, as words:{}", call.answers.len(), hex_words(&record_words(&call.answers)));
+    }
     println!("  tick {:08X}, length variable before {:08X}", call.tick, call.length);
     println!("  image, {} words:{}", call.image.len(), hex_words(shown(&call.image)));
     println!("  buffer, {} bytes:{}", call.buffer.len(), hex_bytes(shown(&call.buffer)));
@@ -240,6 +310,9 @@ fn print_call(call: &Call) {
 fn print_outcome(name: &str, call: &Call, outcome: &Outcome) {
     println!("RESULT of the {name}: number {}, length {}", outcome.number, outcome.length);
     println!("  block:{}", hex_words(&outcome.words));
+    if call.kind == Kind::Batch {
+        println!("  answer records, as words:{}", hex_words(&record_words(&outcome.answers)));
+    }
     print_changes("image", &call.image, &outcome.image);
     if call.buffer == outcome.buffer {
         println!("  buffer: unchanged");
@@ -266,7 +339,7 @@ fn print_changes(name: &str, before: &[u32], after: &[u32]) {
 
 impl Run {
     fn new(seed: u64, unused: Option<Unused>) -> Run {
-        Run { seed, calls: 0, unused, table: [[0; 18]; 6], done: [0; 4], sums: Sums::default() }
+        Run { seed, calls: 0, unused, table: [[0; 18]; KINDS.len()], items: [0; 18], done: [0; 4], sums: Sums::default() }
     }
 
     /// One call on both sides. Any difference ends the program.
@@ -279,6 +352,14 @@ impl Run {
         if wrong.is_none() && call.expected.is_some_and(|number| number != model.number) {
             wrong = Some(format!("both answer {}, but the maker of this input knows of {}", model.number, call.expected.unwrap_or(99)));
         }
+        if wrong.is_none() && call.kind == Kind::Batch && door.number == 0 {
+            wrong = one_by_one(call, &door);
+            for (i, expected) in call.expected_items.iter().enumerate() {
+                if wrong.is_none() && expected.is_some_and(|number| number != door.answers[i].number) {
+                    wrong = Some(format!("item {i}: both answer {}, but the maker of this input knows of {expected:?}", door.answers[i].number));
+                }
+            }
+        }
         if let Some(what) = wrong {
             println!("DIFFERENCE: seed {}, call {} ({}): {what}", self.seed, self.calls, call.kind.name());
             print_call(call);
@@ -289,22 +370,34 @@ impl Run {
         let kind = KINDS.iter().position(|&kind| kind == call.kind).unwrap_or(0);
         self.table[kind][door.number.min(17) as usize] += 1;
         if call.kind == Kind::Command && door.number == 0 {
-            let code = [0, 1, 4, 7].iter().position(|&code| code == call.packet[6]).unwrap_or(0);
-            self.done[code] += 1;
+            self.count_done(&call.packet);
+        }
+        if call.kind == Kind::Batch && door.number == 0 {
+            for i in 0..call.starts.len() {
+                self.items[door.answers[i].number.min(17) as usize] += 1;
+                if door.answers[i].number == 0 {
+                    self.count_done(item_of(call, i));
+                }
+            }
         }
         door
     }
 
+    fn count_done(&mut self, packet: &[u8]) {
+        let code = [0, 1, 4, 7].iter().position(|&code| code == packet[6]).unwrap_or(0);
+        self.done[code] += 1;
+    }
+
     /// One call by itself, of the kind and aim that the turn says; and what follows from it.
     fn single(&mut self, rng: &mut Rng, turn: u64) {
-        let aim = turn / 20;
-        match turn % 20 {
+        let (aim, part) = (turn / 23, turn % 23);
+        match part {
             0 | 1 => {
-                let call = start_up_call(rng, turn / 10);
+                let call = start_up_call(rng, 2 * aim + part);
                 self.call(&call);
             }
             2..=6 => {
-                let call = aimed_command(rng, (5 * aim + turn % 20 - 2) as u32 % 16);
+                let call = aimed_command(rng, (5 * aim + part - 2) as u32 % 16);
                 self.call(&call);
             }
             7..=10 => {
@@ -313,7 +406,7 @@ impl Run {
             }
             11 | 12 => {
                 let aims = [0, 0, 1, 2, 3, 16];
-                let call = aimed_slot(rng, aims[(2 * aim + turn % 20 - 11) as usize % 6]);
+                let call = aimed_slot(rng, aims[(2 * aim + part - 11) as usize % 6]);
                 let outcome = self.call(&call);
                 if outcome.number == 0 {
                     // The packet goes to the reader, whole and damaged.
@@ -331,7 +424,7 @@ impl Run {
             }
             14 | 15 => {
                 let aims = [0, 3, 6, 9, 33, 9];
-                let call = write_call(rng, aims[(2 * aim + turn % 20 - 14) as usize % 6]);
+                let call = write_call(rng, aims[(2 * aim + part - 14) as usize % 6]);
                 let outcome = self.call(&call);
                 if outcome.number == 0 {
                     self.read_back(rng, &call, &outcome);
@@ -354,8 +447,17 @@ impl Run {
                 let call = read_packet_call(rng, aims[aim as usize % 8], None);
                 self.call(&call);
             }
-            _ => {
+            19 => {
                 let call = read_packet_call(rng, 99, None);
+                self.call(&call);
+            }
+            20 | 21 => {
+                let aims = [0, 3, 0, 1, 0, 3, 2];
+                let call = aimed_batch(rng, aims[(2 * aim + part - 20) as usize % 7]);
+                self.call(&call);
+            }
+            _ => {
+                let call = free_batch(rng);
                 self.call(&call);
             }
         }
@@ -440,8 +542,14 @@ impl Run {
             };
             let slots_in_ten = [5, 8, 3, 6][mood as usize];
             let is_slot = rng.below(10) < slots_in_ten;
-            let mut call = if is_slot { list_slot(rng) } else { list_command(rng, &state, &setup, &mut image, mood) };
-            if big && !is_slot {
+            let mut call = if is_slot {
+                list_slot(rng)
+            } else if rng.one_in(8) {
+                list_batch(rng, &state, &setup, &mut image, mood, big.then_some(done))
+            } else {
+                list_command(rng, &state, &setup, &mut image, mood)
+            };
+            if big && call.kind == Kind::Command {
                 long_dumps(rng, &mut call, &state, &setup, done);
             }
             // What is lent wrongly: the image one in 25, the buffer one in 25.
@@ -456,13 +564,17 @@ impl Run {
                 None
             };
             if rng.one_in(25) {
-                let need = if is_slot { 4_092 } else { 32 };
+                let need = match call.kind {
+                    Kind::Slot => 4_092,
+                    Kind::Batch => 32 * call.starts.len(),
+                    _ => 32,
+                };
                 let to = rng.pick(&[0, need - 1, need / 2]);
                 call.buffer.truncate(to);
             }
             call.words = std::mem::take(&mut block);
             let outcome = self.call(&call);
-            done += 1;
+            done += call.starts.len().max(1) as u64; // the items of a batch are calls of the list
             if is_slot {
                 let mut packet = outcome.buffer[..outcome.length as usize].to_vec();
                 if let Some(fault) = fault.as_deref_mut() {
@@ -470,10 +582,17 @@ impl Run {
                 }
                 account.slot_done(&call.image, call.buffer.len(), &packet)?;
             } else if outcome.number == 0 {
-                if let Some(fault) = fault.as_deref_mut() {
-                    fault.command(&call);
+                let accepted: Vec<&[u8]> = if call.kind == Kind::Batch {
+                    (0..call.starts.len()).filter(|&i| outcome.answers[i].number == 0).map(|i| item_of(&call, i)).collect()
+                } else {
+                    vec![&call.packet]
+                };
+                for packet in accepted {
+                    if let Some(fault) = fault.as_deref_mut() {
+                        fault.command(packet, &call.image);
+                    }
+                    account.command_done(packet)?;
                 }
-                account.command_done(&call.packet)?;
             }
             block = outcome.words;
             image = match kept {
@@ -500,11 +619,18 @@ impl Run {
             print!("{number:>7}");
         }
         println!();
+        let mut rows: Vec<(&str, &[u32], &[u64; 18])> = vec![];
         for (i, kind) in KINDS.iter().enumerate() {
-            print!("{:<14}", kind.name());
+            rows.push((kind.name(), kind.numbers(), &self.table[i]));
+            if *kind == Kind::Batch {
+                rows.push(("batch's items", &ITEM_NUMBERS, &self.items));
+            }
+        }
+        for (name, numbers, counts) in rows {
+            print!("{name:<14}");
             for number in 0..18u32 {
-                let n = self.table[i][number as usize];
-                if kind.numbers().contains(&number) {
+                let n = counts[number as usize];
+                if numbers.contains(&number) {
                     print!("{n:>7}");
                     complete &= n > 0;
                 } else if n > 0 {
@@ -625,6 +751,27 @@ fn list_command(rng: &mut Rng, state: &State, setup: &Setup, image: &mut [u32], 
     call
 }
 
+/// A few list commands in one call, each for the state that those before it leave. `long` is for `long_dumps`, in lists that have them.
+fn list_batch(rng: &mut Rng, state: &State, setup: &Setup, image: &mut [u32], mood: u64, long: Option<u64>) -> Call {
+    let n = if rng.one_in(12) { 64 } else { rng.between(1, 10) };
+    let mut state = state.clone();
+    let mut items = vec![];
+    let mut left = image.to_vec();
+    for _ in 0..n {
+        let mut one = list_command(rng, &state, setup, image, mood);
+        if let Some(done) = long {
+            long_dumps(rng, &mut one, &state, setup, done);
+        }
+        state = command_call(&state, &one.packet, &mut left, &mut [0; 32]).state;
+        let leaves = rng.one_in(12);
+        items.push(Item { packet: one.packet, spot: if leaves { Spot::Beyond } else { Spot::Own }, expected: leaves.then_some(4) });
+    }
+    let mut call = Call::new(Kind::Batch, rng);
+    lay_out(rng, &mut call, &items);
+    call.expected_items = vec![]; // the image is lent wrongly now and then
+    call
+}
+
 /// In lists with a region of 65,535 words or more: dumps of 65,535 words to begin with, and few cancels of such, so that they finish.
 fn long_dumps(rng: &mut Rng, call: &mut Call, state: &State, setup: &Setup, done: u64) {
     let n = setup.region_count as usize;
@@ -705,13 +852,13 @@ impl ListFault {
         ListFault { plant, slots: 0, firsts: vec![], frozen: vec![], cancelled: None, last: vec![], starved: None, lost: false }
     }
 
-    fn command(&mut self, call: &Call) {
-        let number = u16::from_be_bytes([call.packet[8] & 15, call.packet[9]]);
-        match call.packet[6] {
+    fn command(&mut self, packet: &[u8], image: &[u32]) {
+        let number = u16::from_be_bytes([packet[8] & 15, packet[9]]);
+        match packet[6] {
             0 => {
                 self.firsts.retain(|(other, _)| *other != number);
                 self.frozen.retain(|(other, _)| *other != number);
-                self.frozen.push((number, call.image.clone()));
+                self.frozen.push((number, image.to_vec()));
                 if self.starved.is_none() && self.slots > 20 {
                     self.starved = Some(number);
                 }
@@ -791,13 +938,14 @@ fn self_test(run: &mut Run) -> bool {
     let mut caught = 0u64;
     let mut by_part = std::collections::BTreeMap::<&str, (u64, u64)>::new();
     for turn in 0..4_000u64 {
-        let call = match turn % 6 {
-            0 => start_up_call(&mut rng, turn / 6),
-            1 => aimed_command(&mut rng, (turn / 6 % 16) as u32),
-            2 => aimed_slot(&mut rng, [0, 1, 2, 3, 16][(turn / 6 % 5) as usize]),
-            3 => write_call(&mut rng, [0, 3, 6, 9, 33][(turn / 6 % 5) as usize]),
-            4 => read_command_call(&mut rng, [0, 3, 4, 5, 6, 7, 9][(turn / 6 % 7) as usize]),
-            _ => read_packet_call(&mut rng, [0, 3, 4, 5, 7, 9][(turn / 6 % 6) as usize], None),
+        let call = match turn % 7 {
+            0 => start_up_call(&mut rng, turn / 7),
+            1 => aimed_command(&mut rng, (turn / 7 % 16) as u32),
+            2 => aimed_slot(&mut rng, [0, 1, 2, 3, 16][(turn / 7 % 5) as usize]),
+            3 => write_call(&mut rng, [0, 3, 6, 9, 33][(turn / 7 % 5) as usize]),
+            4 => read_command_call(&mut rng, [0, 3, 4, 5, 6, 7, 9][(turn / 7 % 7) as usize]),
+            5 => aimed_batch(&mut rng, [0, 1, 2, 3][(turn / 7 % 4) as usize]),
+            _ => read_packet_call(&mut rng, [0, 3, 4, 5, 7, 9][(turn / 7 % 6) as usize], None),
         };
         let mut model = ask_model(&call);
         let door = ask_door(&call);
@@ -821,7 +969,10 @@ fn self_test(run: &mut Run) -> bool {
         let mut bad = door.clone();
         bad.length ^= 1 << rng.below(32);
         try_one("length", bad);
-        for part in ["block", "image", "buffer", "read-only block", "packet", "last byte of buffer", "beside a buffer", "nothing done"] {
+        for part in [
+            "block", "image", "buffer", "read-only block", "packet", "last byte of buffer", "beside a buffer", "nothing done", "record", "last record",
+            "starts", "lengths",
+        ] {
             let mut bad = door.clone();
             match part {
                 "block" if !bad.words.is_empty() => {
@@ -847,6 +998,22 @@ fn self_test(run: &mut Run) -> bool {
                 "packet" if !bad.packet.is_empty() => {
                     let at = rng.below(bad.packet.len() as u64) as usize;
                     bad.packet[at] ^= 1 << rng.below(8);
+                }
+                "record" if !bad.answers.is_empty() => {
+                    let at = rng.below(bad.answers.len() as u64) as usize;
+                    bad.answers[at].number ^= 1 << rng.below(32);
+                }
+                "last record" if !bad.answers.is_empty() => {
+                    let at = bad.answers.len() - 1;
+                    bad.answers[at].length ^= 1 << rng.below(32);
+                }
+                "starts" if !bad.starts.is_empty() => {
+                    let at = rng.below(bad.starts.len() as u64) as usize;
+                    bad.starts[at] ^= 1 << rng.below(32);
+                }
+                "lengths" if !bad.lengths.is_empty() => {
+                    let at = rng.below(bad.lengths.len() as u64) as usize;
+                    bad.lengths[at] ^= 1 << rng.below(32);
                 }
                 "beside a buffer" => bad.overrun = "buffer",
                 "nothing done" if door.number == 0 && door.words != call.words => bad.words = call.words.clone(),

@@ -2,26 +2,32 @@
 //! which number its input must earn, it says so (`Call::expected`); that is a third opinion, apart from both implementations.
 
 use crate::rng::Rng;
-use second::door::{pack_setup, pack_state, COMMAND_WORDS, PACKET_WORDS, STATE_WORDS, TABLE_WORDS};
+use second::door::{pack_setup, pack_state, Answer, COMMAND_WORDS, PACKET_WORDS, STATE_WORDS, TABLE_WORDS};
 use second::model::{Address, Dump, DumpPlace, Pool, Region, Setup, State, NO_POOL, NO_REGION};
 
 #[derive(Clone, Copy, PartialEq, Eq, Debug)]
 pub enum Kind {
     StartUp,
     Command,
+    Batch,
     Slot,
     WriteCommand,
     ReadCommand,
     ReadPacket,
 }
 
-pub const KINDS: [Kind; 6] = [Kind::StartUp, Kind::Command, Kind::Slot, Kind::WriteCommand, Kind::ReadCommand, Kind::ReadPacket];
+pub const KINDS: [Kind; 7] =
+    [Kind::StartUp, Kind::Command, Kind::Batch, Kind::Slot, Kind::WriteCommand, Kind::ReadCommand, Kind::ReadPacket];
+
+/// The numbers that an item of a batch can get: its 32 bytes of reply buffer are always there.
+pub const ITEM_NUMBERS: [u32; 15] = [0, 1, 2, 4, 5, 6, 7, 8, 9, 10, 11, 12, 13, 14, 15];
 
 impl Kind {
     pub fn name(self) -> &'static str {
         match self {
             Kind::StartUp => "start-up",
             Kind::Command => "command",
+            Kind::Batch => "batch",
             Kind::Slot => "slot",
             Kind::WriteCommand => "write command",
             Kind::ReadCommand => "read command",
@@ -34,6 +40,7 @@ impl Kind {
         match self {
             Kind::StartUp => &[0, 17],
             Kind::Command => &[0, 1, 2, 3, 4, 5, 6, 7, 8, 9, 10, 11, 12, 13, 14, 15],
+            Kind::Batch => &[0, 3],
             Kind::Slot => &[0, 1, 2, 3, 16],
             Kind::WriteCommand => &[0, 3, 6, 9],
             Kind::ReadCommand => &[0, 3, 4, 5, 6, 7, 9],
@@ -50,16 +57,22 @@ pub struct Call {
     pub words: Vec<u32>,
     /// The block that the call only reads: start-up's table, the writer's command.
     pub fixed: Vec<u32>,
-    /// The packet that the call reads.
+    /// The packet that the call reads, or the bytes of a batch.
     pub packet: Vec<u8>,
+    /// A batch's lists, and its answer records.
+    pub starts: Vec<u32>,
+    pub lengths: Vec<u32>,
+    pub answers: Vec<Answer>,
     pub image: Vec<u32>,
-    /// Reply buffer, slot buffer, writer's buffer.
+    /// Reply buffer, a batch's reply buffer, slot buffer, writer's buffer.
     pub buffer: Vec<u8>,
     pub tick: u32,
     /// What the length variable holds before the call.
     pub length: u32,
     /// The number that the maker knows the call must earn.
     pub expected: Option<u32>,
+    /// The same for a batch's items; empty if nothing is known.
+    pub expected_items: Vec<Option<u32>>,
 }
 
 impl Call {
@@ -69,11 +82,15 @@ impl Call {
             words: vec![],
             fixed: vec![],
             packet: vec![],
+            starts: vec![],
+            lengths: vec![],
+            answers: vec![],
             image: vec![],
             buffer: vec![],
             tick: 0,
             length: rng.word(),
             expected: None,
+            expected_items: vec![],
         }
     }
 }
@@ -1238,6 +1255,320 @@ pub fn free_command(rng: &mut Rng) -> Call {
     call.words = pack_state(&state).to_vec();
     if rng.one_in(4) {
         disturb_block(rng, &mut call.words);
+    }
+    call
+}
+
+// ------------------------------------------------------------------------------------------------------------------------------------
+// Batches
+// ------------------------------------------------------------------------------------------------------------------------------------
+
+pub enum Spot {
+    /// On bytes of its own.
+    Own,
+    /// On the bytes of an earlier item, from so far on.
+    On(usize, usize),
+    /// Leaves the buffer.
+    Beyond,
+}
+
+pub struct Item {
+    pub packet: Vec<u8>,
+    pub spot: Spot,
+    /// The number that the maker knows, in a good state with its image.
+    pub expected: Option<u32>,
+}
+
+/// A start and a length that leave a buffer of so many bytes; `tail` is where its last item begins.
+fn beyond(rng: &mut Rng, bytes: u32, tail: u32) -> (u32, u32) {
+    let near = bytes.saturating_sub(rng.below(70) as u32);
+    match rng.below(8) {
+        // The last item and one to three bytes more.
+        0 | 1 => (tail, bytes - tail + rng.between(1, 3) as u32),
+        2 => (near, bytes - near + 1),
+        3 => (bytes, rng.between(1, 60) as u32),
+        4 => (bytes + rng.between(1, 100) as u32, rng.below(61) as u32),
+        5 => (u32::MAX, rng.below(70) as u32),
+        // Modulo 2^32 the end is that of a packet at the buffer's beginning, or near it.
+        6 => {
+            let back = rng.between(1, 100) as u32;
+            (back.wrapping_neg(), back + rng.pick(&[0, 1, 10, 12, 16, 60]))
+        }
+        // A length near 2^32: the end is at 2^32, one before it, or past it.
+        _ => {
+            let start = rng.between(1, 100) as u32;
+            (start, rng.pick(&[start.wrapping_neg(), start.wrapping_neg() - 1, u32::MAX, 0x8000_0000]))
+        }
+    }
+}
+
+/// Puts the items into the call: those on bytes of their own in any order, with gaps or none between them.
+pub fn lay_out(rng: &mut Rng, call: &mut Call, items: &[Item]) {
+    let n = items.len();
+    let mut order: Vec<usize> = (0..n).filter(|&i| matches!(items[i].spot, Spot::Own)).collect();
+    if rng.one_in(2) {
+        for i in 1..order.len() {
+            order.swap(i, rng.below(i as u64 + 1) as usize);
+        }
+    }
+    call.starts = vec![0; n];
+    call.lengths = items.iter().map(|item| item.packet.len() as u32).collect();
+    let gaps = rng.one_in(2);
+    let mut tail = 0;
+    for &i in &order {
+        if gaps {
+            let gap = rng.below(6) as usize;
+            let gap = rng.bytes(gap);
+            call.packet.extend_from_slice(&gap);
+        }
+        tail = call.packet.len() as u32;
+        call.starts[i] = tail;
+        call.packet.extend_from_slice(&items[i].packet);
+    }
+    if rng.one_in(3) {
+        let more = rng.below(20) as usize;
+        let more = rng.bytes(more);
+        call.packet.extend_from_slice(&more);
+    }
+    for (i, item) in items.iter().enumerate() {
+        match item.spot {
+            Spot::Own => {}
+            Spot::On(other, from) => call.starts[i] = call.starts[other] + from as u32,
+            Spot::Beyond => (call.starts[i], call.lengths[i]) = beyond(rng, call.packet.len() as u32, tail),
+        }
+        // An empty item may begin anywhere.
+        if item.packet.is_empty() && matches!(item.spot, Spot::Own) {
+            call.starts[i] = rng.pick(&[0, call.packet.len() as u32, call.packet.len() as u32 + 1, u32::MAX]);
+        }
+    }
+    call.expected_items = items.iter().map(|item| item.expected).collect();
+    call.answers = (0..n).map(|_| Answer { number: rng.word(), length: rng.word() }).collect();
+    call.buffer = rng.bytes(32 * n);
+}
+
+/// A header fault of one of the numbers 4 to 8.
+fn break_header(rng: &mut Rng, packet: &mut Vec<u8>) -> u32 {
+    let number = rng.between(4, 8) as u32;
+    match number {
+        4 => break_command_header(rng, packet),
+        5 => break_apid(rng, packet, 1604, true),
+        6 => {
+            packet[6] = other_code(rng);
+            mend_check(packet);
+        }
+        7 => break_packet_length(rng, packet),
+        _ => {
+            packet[8] ^= (rng.between(1, 15) << 4) as u8;
+            mend_check(packet);
+        }
+    }
+    number
+}
+
+/// Items for a state, which follows the dumps and cancels among them for as long as each one's answer is known.
+fn some_items(rng: &mut Rng, state: &State, n: usize) -> Vec<Item> {
+    let mut state = state.clone();
+    let unit = state.setup.unit;
+    let mut known = true;
+    let mut items: Vec<Item> = vec![];
+    let dump_able = with_dump_right(&state.setup);
+    let load_able: Vec<usize> = (0..state.setup.region_count as usize).filter(|&i| state.setup.regions[i].load).collect();
+    while items.len() < n {
+        let busy = busy_transactions(&state);
+        let own = |packet, expected| Item { packet, spot: Spot::Own, expected };
+        let item = match rng.below(18) {
+            0..=3 if !dump_able.is_empty() => {
+                let region = state.setup.regions[rng.pick(&dump_able)];
+                let again = !busy.is_empty() && rng.one_in(4);
+                let transaction = if again { rng.pick(&busy) } else { free_transaction(rng, &state) };
+                let dump = Dump { sent: 0, ..dump_in(rng, &region, transaction) };
+                let idle = state.places.iter().position(|place| *place == DumpPlace::Idle);
+                let number = match idle {
+                    _ if again => 12,
+                    None => 13,
+                    Some(i) => {
+                        state.places[i] = DumpPlace::Busy(dump);
+                        0
+                    }
+                };
+                own(dump_command(rng, unit, transaction, dump.requested, dump.start.0), known.then_some(number))
+            }
+            4..=6 => {
+                let found = !busy.is_empty() && !rng.one_in(4);
+                let transaction = if found { rng.pick(&busy) } else { free_transaction(rng, &state) };
+                for place in state.places.iter_mut() {
+                    if matches!(place, DumpPlace::Busy(dump) if dump.transaction == transaction) {
+                        *place = DumpPlace::Idle;
+                    }
+                }
+                own(cancel_command(rng, unit, transaction), known.then_some(if found { 0 } else { 14 }))
+            }
+            7..=9 if !load_able.is_empty() => {
+                let region = state.setup.regions[rng.pick(&load_able)];
+                let (start, rest) = inside(rng, &region);
+                let size = rng.between(1, u64::from(rest.min(11))) as u32;
+                let transaction = rng.below(4_096) as u32;
+                let mut packet = load_command(rng, unit, transaction, size, start.0);
+                if rng.one_in(3) && items.len() + 1 < n {
+                    // A whole packet in the load's data, which is the next item.
+                    let from = rng.between(16, 44) as usize;
+                    let transaction = free_transaction(rng, &state);
+                    let inner = cancel_command(rng, unit, transaction);
+                    packet[from..from + inner.len()].copy_from_slice(&inner);
+                    mend_check(&mut packet);
+                    items.push(own(packet, Some(0)));
+                    Item { packet: inner, spot: Spot::On(items.len() - 1, from), expected: known.then_some(14) }
+                } else {
+                    own(packet, Some(0))
+                }
+            }
+            10 | 11 => {
+                let p = rng.below(2) as usize;
+                let transaction = rng.below(4_096) as u32;
+                let none = state.setup.pools[p].size == 0;
+                own(pool_command(rng, unit, transaction, p as u32), none.then_some(10))
+            }
+            12 => {
+                let mut packet = some_command(rng, &state);
+                if packet[8] >> 4 != unit as u8 {
+                    packet[8] = (unit << 4) as u8 | packet[8] & 15;
+                    mend_check(&mut packet);
+                }
+                let number = break_header(rng, &mut packet);
+                own(packet, Some(number))
+            }
+            13 | 14 => Item { packet: vec![], spot: Spot::Beyond, expected: Some(4) },
+            15 => own(vec![], Some(4)),
+            16 if !items.is_empty() => {
+                // An earlier one's bytes again, all or a part of them.
+                let other = rng.below(items.len() as u64) as usize;
+                if !matches!(items[other].spot, Spot::Own) {
+                    continue;
+                }
+                known = false;
+                let bytes = items[other].packet.len();
+                let from = if rng.one_in(2) { 0 } else { rng.below(bytes as u64 + 1) as usize };
+                let to = if rng.one_in(2) { bytes } else { rng.between(from as u64, bytes as u64) as usize };
+                let packet = items[other].packet[from..to].to_vec();
+                if packet.is_empty() {
+                    continue;
+                }
+                Item { packet, spot: Spot::On(other, from), expected: None }
+            }
+            _ => {
+                known = false;
+                let mut packet = some_command(rng, &state);
+                if rng.one_in(3) {
+                    damage_packet(rng, &mut packet, true);
+                }
+                own(packet, None)
+            }
+        };
+        items.push(item);
+    }
+    items
+}
+
+fn item_count(rng: &mut Rng) -> usize {
+    match rng.below(8) {
+        0 => 64,
+        1 => rng.pick(&[0, 1, 62, 63]),
+        2..=5 => rng.between(1, 9) as usize,
+        _ => rng.below(65) as usize,
+    }
+}
+
+/// More records and reply bytes than the items need.
+fn spare(rng: &mut Rng, call: &mut Call) {
+    for _ in 0..rng.pick(&[0, 0, 1, 2, 5, 64]) {
+        call.answers.push(Answer { number: rng.word(), length: rng.word() });
+    }
+    let more = rng.pick(&[0, 0, 1, 31, 32, 33, 70]);
+    let more = rng.bytes(more);
+    call.buffer.extend_from_slice(&more);
+}
+
+/// A batch call: aim 0, items of all kinds; 1 or 2, which each item gets; 3, which the call gets.
+pub fn aimed_batch(rng: &mut Rng, aim: u32) -> Call {
+    let mut call = Call::new(Kind::Batch, rng);
+    let scale = scale(rng);
+    let state = good_state(rng, scale);
+    let way = rng.below(6);
+    let n = match (aim, way) {
+        (3, 0 | 1) => rng.between(65, 66) as usize,
+        (3, 4 | 5) => item_count(rng).max(1),
+        _ => item_count(rng),
+    };
+    let items = some_items(rng, &state, n);
+    lay_out(rng, &mut call, &items);
+    spare(rng, &mut call);
+    let last = rng.below(2) as usize;
+    call.image = image_for(rng, &state.setup, last, None);
+    call.words = pack_state(&state).to_vec();
+    if aim == 3 {
+        match way {
+            0 | 1 => {}
+            2 => {
+                let list = if rng.one_in(2) { &mut call.starts } else { &mut call.lengths };
+                if list.is_empty() || rng.one_in(2) {
+                    list.push(0);
+                } else {
+                    list.pop();
+                }
+            }
+            3 => {
+                // One list is empty, or has far more.
+                let list = if rng.one_in(2) { &mut call.starts } else { &mut call.lengths };
+                let to = if list.is_empty() || rng.one_in(2) { n + 64 } else { 0 };
+                list.resize(to, 0);
+            }
+            4 => call.answers.truncate(if rng.one_in(3) { rng.below(n as u64) as usize } else { n - 1 }),
+            _ => call.buffer.truncate(if rng.one_in(3) { rng.below(32 * n as u64) as usize } else { 32 * n - 1 }),
+        }
+    }
+    if aim == 2 || (aim != 0 && rng.one_in(4)) {
+        wrong_length(rng, &mut call.image);
+    }
+    if aim == 1 || (aim == 3 && rng.one_in(3)) {
+        call.words = break_state(rng, &state);
+    }
+    match aim {
+        0 => {}
+        3 => call.expected_items = vec![],
+        _ => call.expected_items = vec![Some(aim); n],
+    }
+    call.expected = Some(if aim == 3 { 3 } else { 0 });
+    call
+}
+
+/// A batch call of random parts, each damaged or not.
+pub fn free_batch(rng: &mut Rng) -> Call {
+    let mut call = aimed_batch(rng, 0);
+    call.expected = None;
+    call.expected_items = vec![];
+    for _ in 0..rng.below(3) {
+        let n = call.starts.len();
+        match rng.below(6) {
+            0 => disturb_block(rng, &mut call.words),
+            1 if rng.one_in(3) && !call.image.is_empty() => wrong_length(rng, &mut call.image),
+            2 if n > 0 => {
+                let at = rng.below(n as u64) as usize;
+                call.starts[at] = call.starts[at].wrapping_add(rng.pick(&[1, 2, u32::MAX, 0x8000_0000, 60]));
+            }
+            3 if n > 0 => {
+                let at = rng.below(n as u64) as usize;
+                call.lengths[at] = call.lengths[at].wrapping_add(rng.pick(&[1, 2, u32::MAX, 0x8000_0000, 4]));
+            }
+            4 if !call.packet.is_empty() => {
+                let at = rng.below(call.packet.len() as u64) as usize;
+                call.packet[at] ^= 1 << rng.below(8);
+            }
+            _ => {
+                // The buffer ends before some of the items.
+                let to = rng.below(call.packet.len() as u64 + 1) as usize;
+                call.packet.truncate(if rng.one_in(2) { to } else { call.packet.len().saturating_sub(1) });
+            }
+        }
     }
     call
 }

@@ -1,4 +1,4 @@
-//! The memory service of paper 01, written a second time, from the paper alone.
+//! The memory service of paper 01 with request A1 of paper 02, written a second time, from the papers alone.
 //!
 //! Plain style: one function for each rule, each naming the section of the paper that it comes from. All sums of addresses are done in 64 bits.
 
@@ -25,6 +25,7 @@ pub const CUT: u32 = 1_016;
 pub const PACKET_COUNT_MOST: u32 = 16_383;
 pub const COMMAND_COUNT_MOST: u32 = 65_535;
 pub const REPLY_BYTES: usize = 32;
+pub const BATCH_ITEMS: usize = 64;
 pub const SLOT_BYTES: usize = 4_092;
 pub const PACKET_HEADER_BYTES: usize = 28;
 pub const LOAD_WORDS: usize = 11;
@@ -626,6 +627,54 @@ fn do_pool_statistics(state: &State, transaction: u32, number: u32, image: &[u32
     let mut after = state.clone();
     after.count_785 = (state.count_785 + 1) % 16_384;
     accepted(after, REPLY_BYTES as u32)
+}
+
+// ------------------------------------------------------------------------------------------------------------------------------------
+// Request A1: "Many commands in one call"
+// ------------------------------------------------------------------------------------------------------------------------------------
+
+/// "an answer record for each item ...: its number and reply length".
+#[derive(Clone, Copy, PartialEq, Eq, Debug)]
+pub struct ItemAnswer {
+    pub number: u32,
+    pub reply_length: u32,
+}
+
+#[derive(Clone, PartialEq, Eq, Debug)]
+pub struct BatchAnswer {
+    pub state: State,
+    /// One for each item.
+    pub answers: Vec<ItemAnswer>,
+}
+
+/// "Over 64 items, unequal lists, or an answer list or reply buffer too short refuses the whole call with 3 before any other test".
+pub fn batch_is_refused(starts: usize, lengths: usize, answers: usize, reply_bytes: usize) -> bool {
+    let items = starts;
+    starts != lengths || items > BATCH_ITEMS || answers < items || reply_bytes < REPLY_BYTES * items
+}
+
+/// "An item that leaves the buffer is an empty packet." The sum is done in 64 bits.
+pub fn item_packet(bytes: &[u8], start: u32, length: u32) -> &[u8] {
+    let end = u64::from(start) + u64::from(length);
+    if end > bytes.len() as u64 {
+        return &[];
+    }
+    &bytes[start as usize..end as usize]
+}
+
+/// "It equals the single calls made in order, refused ones included." "The reply buffer has 32 bytes per item, in the items' order". The call is
+/// not refused; its number is 0.
+pub fn batch_call(state: &State, bytes: &[u8], starts: &[u32], lengths: &[u32], image: &mut [u32], replies: &mut [u8]) -> BatchAnswer {
+    let mut after = state.clone();
+    let mut answers = vec![];
+    for i in 0..starts.len() {
+        let packet = item_packet(bytes, starts[i], lengths[i]);
+        let reply = &mut replies[REPLY_BYTES * i..REPLY_BYTES * (i + 1)];
+        let answer = command_call(&after, packet, image, reply);
+        answers.push(ItemAnswer { number: answer.number, reply_length: answer.reply_length });
+        after = answer.state;
+    }
+    BatchAnswer { state: after, answers }
 }
 
 // ------------------------------------------------------------------------------------------------------------------------------------

@@ -1,4 +1,4 @@
-//! "Checked examples" E1 to E12 of paper 01, against the model alone.
+//! "Checked examples" E1 to E12 of paper 01 and a batch (request A1), against the model alone.
 use second::model::*;
 
 const BOTH: (bool, bool) = (true, true);
@@ -229,4 +229,73 @@ fn start_up_refused() {
     assert_eq!(state.last, 3);
     let answer = command_call(&state, &[], &mut [], &mut []);
     assert_eq!((answer.number, answer.state), (1, state));
+}
+
+#[test]
+fn a1_batch() {
+    // Eight words at 1000 hex, the first six of them pool 1 as in E11.
+    let state = started(&[(0x1000, 8, BOTH)], [(0, 0), (0x1000, 6)]);
+    let mut image = vec![0x8000_0002, 5, 4, 5, 5, 5, 0x7777_7777, 0x8888_8888];
+    let statistics = packet(0, 0x123, Command::PoolStatistics { pool: 1 });
+    let mut data = [0; LOAD_WORDS];
+    data[0] = 0x8000_0004;
+    let load = packet(1, 0xABC, Command::Load { size: 1, address: Address(0x1008), data });
+    let whole = dump(0x123, 8, 0x1000);
+    let mut buffer = statistics.clone();
+    buffer.extend_from_slice(&load);
+    buffer.extend_from_slice(&whole);
+    let (pool_at, load_at, dump_at, end) = (0, 12, 72, 88);
+    assert_eq!(buffer.len(), end as usize);
+    let items = [
+        (pool_at, 12),         // figures of E11
+        (load_at, 60),         // the free block becomes used
+        (pool_at, 12),         // the same bytes again: other figures and the next count
+        (dump_at, 16),         // to the last byte of the buffer
+        (dump_at, 17),         // one byte past it: an empty packet, not the dump again (which would be 12)
+        (dump_at, 16),         // 12
+        (end, 0),              // empty
+        (u32::MAX, 13),        // as whole numbers far past the end; modulo 2^32 it would end with the first packet
+        (u32::MAX - 11, 24),   // the same, as long as two of them
+    ];
+    let starts: Vec<u32> = items.iter().map(|item| item.0).collect();
+    let lengths: Vec<u32> = items.iter().map(|item| item.1).collect();
+    let mut replies = [0xEE; 32 * 9 + 3];
+    assert!(!batch_is_refused(9, 9, 9, replies.len()));
+    let batch = batch_call(&state, &buffer, &starts, &lengths, &mut image, &mut replies);
+    let got: Vec<(u32, u32)> = batch.answers.iter().map(|answer| (answer.number, answer.reply_length)).collect();
+    assert_eq!(got, [(0, 32), (0, 0), (0, 32), (0, 0), (4, 0), (12, 0), (4, 0), (4, 0), (4, 0)]);
+    assert_eq!((batch.state.accepted, batch.state.refused, batch.state.count_785), (4, 5, 2));
+    assert_eq!(batch.state.places[0], DumpPlace::Busy(Dump { transaction: 0x123, start: Address(0x1000), requested: 8, sent: 0 }));
+    assert_eq!(batch.state.places[1..], [DumpPlace::Idle; 3]);
+    assert_eq!(image, [0x8000_0002, 5, 0x8000_0004, 5, 5, 5, 0x7777_7777, 0x8888_8888]);
+    let reply = |count: u8, figures: [u32; 5]| {
+        let mut all = bytes("03 11 C0 00 00 19 21 23 00 01 00 00");
+        all[3] = count;
+        all.extend(figures.iter().flat_map(|figure| figure.to_be_bytes()));
+        all
+    };
+    assert_eq!(replies[..32], reply(0, [4, 1, 4, 2, 1]));
+    assert_eq!(replies[32..64], [0xEE; 32]);
+    assert_eq!(replies[64..96], reply(1, [0, 0, 0, 6, 2]));
+    assert!(replies[96..].iter().all(|&byte| byte == 0xEE));
+}
+
+#[test]
+fn a1_batch_refused() {
+    // Items and the other list, records, reply bytes.
+    assert!(!batch_is_refused(0, 0, 0, 0));
+    assert!(!batch_is_refused(64, 64, 64, 2_048));
+    assert!(!batch_is_refused(3, 3, 9, 100));
+    assert!(batch_is_refused(65, 65, 65, 2_080));
+    assert!(batch_is_refused(3, 2, 9, 100));
+    assert!(batch_is_refused(2, 3, 9, 100));
+    assert!(batch_is_refused(3, 3, 2, 100));
+    assert!(batch_is_refused(3, 3, 3, 95));
+}
+
+#[test]
+fn a1_batch_of_a_state_that_is_not_good() {
+    let state = state_of_zero_regions();
+    let batch = batch_call(&state, &[], &[0, 5], &[0, 0], &mut [], &mut [0; 64]);
+    assert_eq!(batch, BatchAnswer { state, answers: vec![ItemAnswer { number: 1, reply_length: 0 }; 2] });
 }

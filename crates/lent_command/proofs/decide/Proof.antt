@@ -16,9 +16,6 @@ word-at-requires c κs = search needs
 cast-unit : tie.Need-cast-unit
 cast-unit c = search needs
 
-good-words-requires : tie.Need-good-words-requires
-good-words-requires c κs = search needs
-
 opened-requires : tie.Need-opened-requires
 opened-requires c κs = search needs
 
@@ -30,15 +27,15 @@ enum-known-opened-2 c = search needs
 
 by-command-requires : tie.Need-by-command-requires
 by-command-requires c κs =
-    let s = c .before .before .before .before .before .before .before .before .before in
-    let some = opened-some (c .before .before .before .before .good-words .result) (length (s .args .image .now)) (s .args .reply) (s .args .packet .now) (c .before .before .before .before .before .word-at .result % 256) (sym (c .before .before .before .opened .ensures) ∙ c .before .opened3 .given .1) in
-    and-both (is-block _ (c .before .before .before .before .good-words .ensures) some) (is-good _ (c .before .before .before .before .good-words .ensures) some)
+    let s = c .before .before .before .before .before .before .before .before in
+    let some = opened-some (s .args .words) (length (s .args .image .now)) (s .args .reply) (s .args .packet .now) (c .before .before .before .before .word-at .result % 256) (sym (c .before .before .before .opened .ensures) ∙ c .before .opened3 .given .1) in
+    and-both (is-block _ (s .pre) some) (is-good _ (s .pre) some)
 
 returns : tie.Need-returns
-returns c = λ bytes e. rw (← opened-on _ _ _ (c .before .before .before .before .before .word-at .ensures), e, ← c .before .before .before .before .good-words .ensures, ← c .before .before .before .opened .ensures, c .before .opened2 .given .1)
+returns c = λ bytes e. rw (← opened-on _ _ _ (c .before .before .before .before .word-at .ensures), e, ← c .before .before .before .before .before .before .before .before .pre, ← c .before .before .before .opened .ensures, c .before .opened2 .given .1)
 
 returns-2 : tie.Need-returns-2
-returns-2 c = λ bytes e. rw (← opened-on _ _ _ (c .before .before .before .before .before .before .word-at .ensures), e, ← c .before .before .before .before .before .good-words .ensures, ← c .before .before .before .before .opened .ensures, c .before .before .opened3 .given .1) (c .by-command .ensures)
+returns-2 c = λ bytes e. rw (← opened-on _ _ _ (c .before .before .before .before .before .word-at .ensures), e, ← c .before .before .before .before .before .before .before .before .before .pre, ← c .before .before .before .before .opened .ensures, c .before .before .opened3 .given .1) (c .by-command .ensures)
 
 pub decide-spec : {M : Type 1} → statement M
 decide-spec =
@@ -46,7 +43,6 @@ decide-spec =
     (tie.spec
     word-at-requires
     cast-unit
-    good-words-requires
     opened-requires
     enum-known-opened
     enum-known-opened-2

@@ -1,0 +1,11 @@
+pub mod InPlain
+pub mod InOrder
+pub mod Unwritten
+pub mod Promises
+pub mod Lists
+pub mod Examples
+pub mod Kept
+pub mod Records
+pub mod Items
+pub mod Turns
+pub mod Whole

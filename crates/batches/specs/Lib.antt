@@ -1,0 +1,4 @@
+pub mod Batch
+pub mod InOrder
+pub mod Lists
+pub mod Examples
