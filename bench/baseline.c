@@ -1,5 +1,5 @@
-/* The seven calls of leatgarnet.h by hand, from paper 01 and the header: the yardstick for speed. It does every check that they ask for, and works
- * on the lent block as it stands. Compiled twice, with -DPREFIX=gcc_ and -DPREFIX=clang_. For little-endian machines. */
+/* The seven calls of leatgarnet.h by hand, from papers 01 and 02 (A1, A2) and the header: the yardstick for speed. It does every check that they
+ * ask for, and works on the lent block as it stands. Compiled twice, with -DPREFIX=gcc_ and -DPREFIX=clang_. For little-endian machines. */
 #include "baseline.h"
 #include <string.h>
 
@@ -7,11 +7,13 @@
 #define NAME(prefix, name) PASTE(prefix, name)
 #define CALL(name) NAME(PREFIX, name)
 
-enum { STATE_WORDS = 79, TABLE_WORDS = 54, COMMAND_WORDS = 18, PACKET_WORDS = 8 };
-enum { REGIONS = 1, POOLS = 49, UNIT = 53, PLACES = 54, LAST = 74, COUNT_785 = 75, COUNT_788 = 76, ACCEPTED = 77, REFUSED = 78 };
+enum { STATE_WORDS = 80, TABLE_WORDS = 54, COMMAND_WORDS = 21, PACKET_WORDS = 8 };
+enum { REGIONS = 1, POOLS = 49, UNIT = 53, PLACES = 54, LAST = 74, COUNT_785 = 75, COUNT_788 = 76, ACCEPTED = 77, REFUSED = 78,
+       COUNT_786 = 79 };
 enum { BUSY, TRANSACTION, START, WORDS, SENT, PLACE_WORDS };
 enum { LOAD_RIGHT = 1, DUMP_RIGHT = 2, CUT = 1016, LOAD_WORDS = 11, REPLY_BYTES = 32, HEADER_BYTES = 28, SLOT_BYTES = 4092, ITEMS = 64 };
-enum { CODE_DUMP = 0, CODE_CANCEL = 1, CODE_LOAD = 4, CODE_POOL = 7 };
+enum { SYMBOLS = 256, SYMBOL_BYTES = 56, NAME_BYTES = 48, NAME_WORDS = 12, VALUE_BYTES = 12 };
+enum { CODE_DUMP = 0, CODE_CANCEL = 1, CODE_LOAD = 4, CODE_POOL = 7, CODE_VALUE = 8, CODE_BY_NAME = 9 };
 
 static inline uint32_t get16(const uint8_t *p)
 {
@@ -98,7 +100,7 @@ static inline uint32_t good(const uint32_t *s, struct places *at)
     uint32_t rights = 0, sum;
     for (int i = 0; i < 16; i++) /* unused entries too: a block with other rights is no state */
         rights |= regions[3 * i + 2];
-    if (rights > 3 || s[UNIT] > 15 || s[LAST] > 3 || (s[COUNT_785] | s[COUNT_788]) > 16383 || (s[ACCEPTED] | s[REFUSED]) > 65535)
+    if (rights > 3 || s[UNIT] > 15 || s[LAST] > 3 || (s[COUNT_785] | s[COUNT_786] | s[COUNT_788]) > 16383 || (s[ACCEPTED] | s[REFUSED]) > 65535)
         return 0;
     sum = table_sum(regions, count);
     if (sum == 0 || !pools_good(s + POOLS, regions, count, at->pool))
@@ -144,6 +146,8 @@ static inline uint32_t code_bytes(uint32_t code)
     case CODE_CANCEL: return 10;
     case CODE_LOAD: return 60;
     case CODE_POOL: return 12;
+    case CODE_VALUE: return 60;
+    case CODE_BY_NAME: return 68;
     default: return 0;
     }
 }
@@ -166,6 +170,60 @@ static inline uint32_t form(const uint8_t *packet, size_t bytes)
 static inline int bad_request(uint32_t code, uint32_t size, uint32_t address)
 {
     return address % 4 != 0 || size - 1 >= (code == CODE_LOAD ? LOAD_WORDS : 65535u);
+}
+
+/* Whether number 9 names the name field or the zero bits of a packet of code 8 or 9. */
+static inline int bad_name(const uint8_t *packet)
+{
+    return packet[10] - 1u >= NAME_BYTES || packet[11] != 0 || (packet[6] == CODE_BY_NAME && get16(packet + 66) != 0);
+}
+
+/* Whether two records have one name; their padding is right. Here, since a call of memcmp for each pair costs more than the pair. */
+static inline int same_name(const uint8_t *p, const uint8_t *q)
+{
+    uint64_t a, b, differ = p[1] ^ q[1];
+    memcpy(&a, p + 4, 8);
+    memcpy(&b, q + 4, 8);
+    if (a != b)
+        return 0;
+    for (int i = 12; i < 52; i += 8) {
+        memcpy(&a, p + i, 8);
+        memcpy(&b, q + i, 8);
+        differ |= a ^ b;
+    }
+    return differ == 0;
+}
+
+/* Whether the bytes are a symbol table. */
+static int table_good(const uint8_t *symbols, size_t bytes)
+{
+    static const uint8_t zeros[NAME_BYTES];
+    const uint8_t *end = symbols + bytes;
+    if (bytes % SYMBOL_BYTES != 0 || bytes > SYMBOLS * SYMBOL_BYTES)
+        return 0;
+    uint32_t number = 0;
+    for (const uint8_t *p = symbols; p < end; p += SYMBOL_BYTES, number++) {
+        if (p[0] > 1 || p[1] - 1u >= NAME_BYTES || (p[2] | p[3]) != 0 || (p[0] == 1 && get32(p + 52) >= number))
+            return 0;
+        if (memcmp(p + 4 + p[1], zeros, NAME_BYTES - p[1]) != 0)
+            return 0;
+        for (const uint8_t *q = symbols; q < p; q += SYMBOL_BYTES)
+            if (same_name(p, q))
+                return 0;
+    }
+    return 1;
+}
+
+/* The record of a good table that holds the value of a name, or NULL. */
+static inline const uint8_t *look_up(const uint8_t *symbols, size_t bytes, const uint8_t *name, uint32_t length)
+{
+    for (const uint8_t *p = symbols, *end = symbols + bytes; p < end; p += SYMBOL_BYTES)
+        if (p[1] == length && memcmp(p + 4, name, length) == 0) {
+            while (p[0] == 1)
+                p = symbols + SYMBOL_BYTES * get32(p + 52);
+            return p;
+        }
+    return NULL;
 }
 
 /* The pool's figures in the reply, and 0; or 15. */
@@ -217,12 +275,38 @@ uint32_t CALL(start_up)(const uint32_t *restrict table, size_t table_words, uint
     return 0;
 }
 
+/* The symbols lent, and whether they are a table: tested when a command first asks. */
+struct symbols {
+    const uint8_t *records;
+    size_t bytes;
+    enum { UNTESTED, TABLE, NONE } is;
+};
+
+/* The lowest idle place gets the dump; or 12 or 13. */
+static inline uint32_t make_busy(uint32_t *s, uint32_t transaction, uint32_t address, uint32_t size)
+{
+    uint32_t *idle = NULL;
+    for (uint32_t *p = s + LAST - PLACE_WORDS; p >= s + PLACES; p -= PLACE_WORDS) {
+        if (p[BUSY] == 0)
+            idle = p;
+        else if (p[TRANSACTION] == transaction)
+            return 12;
+    }
+    if (idle == NULL)
+        return 13;
+    idle[BUSY] = 1;
+    idle[TRANSACTION] = transaction;
+    idle[START] = address;
+    idle[WORDS] = size;
+    return 0;
+}
+
 /* A packet to a good state, with an image that fits and a reply buffer. In the caller's code, as if written there. */
 __attribute__((always_inline)) static inline uint32_t carry_out(uint32_t *restrict s, const uint32_t *restrict pool_at, const uint8_t *restrict packet,
-                                                                size_t packet_bytes, uint32_t *restrict image, uint8_t *restrict reply,
-                                                                uint32_t *restrict reply_length)
+                                                                size_t packet_bytes, struct symbols *restrict symbols, uint32_t *restrict image,
+                                                                uint8_t *restrict reply, uint32_t *restrict reply_length)
 {
-    uint32_t number, transaction, place, *p, *idle = NULL;
+    uint32_t number, transaction, place, *p;
     number = form(packet, packet_bytes);
     if (number == 5)
         return 5;
@@ -247,18 +331,9 @@ __attribute__((always_inline)) static inline uint32_t carry_out(uint32_t *restri
                 image[place + i] = get32(packet + 16 + 4 * i);
             break;
         }
-        for (p = s + LAST - PLACE_WORDS; p >= s + PLACES; p -= PLACE_WORDS) {
-            if (p[BUSY] == 0)
-                idle = p;
-            else if (p[TRANSACTION] == transaction)
-                return refuse(s, 12);
-        }
-        if (idle == NULL)
-            return refuse(s, 13);
-        idle[BUSY] = 1;
-        idle[TRANSACTION] = transaction;
-        idle[START] = address;
-        idle[WORDS] = size;
+        number = make_busy(s, transaction, address, size);
+        if (number != 0)
+            return refuse(s, number);
         break;
     }
     case CODE_CANCEL:
@@ -269,6 +344,40 @@ __attribute__((always_inline)) static inline uint32_t carry_out(uint32_t *restri
             return refuse(s, 14);
         memset(p, 0, 4 * PLACE_WORDS);
         break;
+    case CODE_VALUE:
+    case CODE_BY_NAME: {
+        if (symbols->is == UNTESTED)
+            symbols->is = table_good(symbols->records, symbols->bytes) ? TABLE : NONE;
+        if (symbols->is == NONE)
+            return refuse(s, 17);
+        if (bad_name(packet))
+            return refuse(s, 9);
+        const uint8_t *record = look_up(symbols->records, symbols->bytes, packet + 12, packet[10]);
+        if (record == NULL)
+            return refuse(s, 18);
+        if (packet[6] == CODE_VALUE) {
+            put32(reply, 786u << 16 | 3u << 14 | s[COUNT_786]);
+            put16(reply + 4, VALUE_BYTES - 7);
+            memcpy(reply + 6, packet + 8, 2);
+            memcpy(reply + 8, record + 52, 4);
+            s[COUNT_786] = (s[COUNT_786] + 1) & 0x3FFF;
+            *reply_length = VALUE_BYTES;
+            break;
+        }
+        uint32_t size = get16(packet + 64);
+        int64_t address = get32(record + 52) + (int64_t)(int32_t)get32(packet + 60);
+        if (address < 0 || address >> 32 != 0 || bad_request(CODE_DUMP, size, (uint32_t)address))
+            return refuse(s, 9);
+        int rights = find(s + REGIONS, s[0], (uint32_t)address, size, &place);
+        if (rights < 0)
+            return refuse(s, 10);
+        if (!(rights & DUMP_RIGHT))
+            return refuse(s, 11);
+        number = make_busy(s, transaction, (uint32_t)address, size);
+        if (number != 0)
+            return refuse(s, number);
+        break;
+    }
     default: { /* CODE_POOL */
         uint32_t pool = get16(packet + 10);
         if (pool > 1)
@@ -289,9 +398,11 @@ __attribute__((always_inline)) static inline uint32_t carry_out(uint32_t *restri
     return 0;
 }
 
-uint32_t CALL(command)(uint32_t *restrict s, size_t state_words, const uint8_t *restrict packet, size_t packet_bytes, uint32_t *restrict image,
-                       size_t image_words, uint8_t *restrict reply, size_t reply_bytes, uint32_t *restrict reply_length)
+uint32_t CALL(command)(uint32_t *restrict s, size_t state_words, const uint8_t *restrict packet, size_t packet_bytes,
+                       const uint8_t *restrict symbols, size_t symbols_bytes, uint32_t *restrict image, size_t image_words, uint8_t *restrict reply,
+                       size_t reply_bytes, uint32_t *restrict reply_length)
 {
+    struct symbols lent = { symbols, symbols_bytes, UNTESTED };
     struct places at;
     uint32_t sum;
     *reply_length = 0;
@@ -301,15 +412,16 @@ uint32_t CALL(command)(uint32_t *restrict s, size_t state_words, const uint8_t *
         return 2;
     if (reply_bytes < REPLY_BYTES)
         return 3;
-    return carry_out(s, at.pool, packet, packet_bytes, image, reply, reply_length);
+    return carry_out(s, at.pool, packet, packet_bytes, &lent, image, reply, reply_length);
 }
 
-/* A good state stays good, and its table and pools stay as they are: one test will do for all items. */
+/* A good state stays good, and its table and pools and the symbols stay as they are: one test will do for all items. */
 uint32_t CALL(commands)(uint32_t *restrict s, size_t state_words, const uint8_t *restrict bytes, size_t bytes_length,
                         const uint32_t *restrict starts, size_t starts_count, const uint32_t *restrict lengths, size_t lengths_count,
-                        uint32_t *restrict image, size_t image_words, uint8_t *restrict replies, size_t replies_bytes,
-                        struct lg_answer *restrict answers, size_t answers_count)
+                        const uint8_t *restrict symbols, size_t symbols_bytes, uint32_t *restrict image, size_t image_words,
+                        uint8_t *restrict replies, size_t replies_bytes, struct lg_answer *restrict answers, size_t answers_count)
 {
+    struct symbols lent = { symbols, symbols_bytes, UNTESTED };
     struct places at;
     uint32_t sum, each;
     if (starts_count > ITEMS || lengths_count != starts_count || answers_count < starts_count || replies_bytes < REPLY_BYTES * starts_count)
@@ -320,8 +432,8 @@ uint32_t CALL(commands)(uint32_t *restrict s, size_t state_words, const uint8_t 
         answers[i].number = each;
         answers[i].length = 0;
         if (each == 0)
-            answers[i].number = carry_out(s, at.pool, inside ? bytes + starts[i] : bytes, inside ? lengths[i] : 0, image, replies + REPLY_BYTES * i,
-                                          &answers[i].length);
+            answers[i].number = carry_out(s, at.pool, inside ? bytes + starts[i] : bytes, inside ? lengths[i] : 0, &lent, image,
+                                          replies + REPLY_BYTES * i, &answers[i].length);
     }
     return 0;
 }
@@ -383,6 +495,8 @@ uint32_t CALL(write_command)(const uint32_t *restrict command, size_t command_wo
         return 9;
     if ((code == CODE_DUMP || code == CODE_LOAD) && bad_request(code, size, address))
         return 9;
+    if (code >= CODE_VALUE && (command[19] - 1 >= NAME_BYTES || (code == CODE_BY_NAME && size - 1 >= 65535)))
+        return 9;
     /* the packet as words, so that the check byte is made from registers */
     uint32_t w0 = 0x1E44C000 | command[1], w1 = (bytes - 7) << 16 | code << 8, w2 = (command[2] << 12 | command[3]) << 16, all = w0 ^ w1;
     if (code == CODE_DUMP || code == CODE_LOAD) {
@@ -391,6 +505,21 @@ uint32_t CALL(write_command)(const uint32_t *restrict command, size_t command_wo
         put32(buffer + 12, address);
     } else if (code == CODE_POOL)
         w2 |= pool;
+    else if (code >= CODE_VALUE) {
+        uint32_t length = command[19];
+        w2 |= length << 8;
+        for (uint32_t i = 0; i < NAME_WORDS; i++) {
+            uint32_t used = length > 4 * i ? length - 4 * i : 0; /* bytes of the word that are the name's */
+            uint32_t word = used >= 4 ? command[7 + i] : used > 0 ? command[7 + i] & ~(0xFFFFFFFFu >> 8 * used) : 0;
+            all ^= word;
+            put32(buffer + 12 + 4 * i, word);
+        }
+        if (code == CODE_BY_NAME) {
+            all ^= command[20] ^ size;
+            put32(buffer + 60, command[20]);
+            put32(buffer + 64, size << 16);
+        }
+    }
     if (code == CODE_LOAD)
         for (uint32_t i = 0; i < LOAD_WORDS; i++) {
             uint32_t word = i < size ? command[7 + i] : 0;
@@ -426,6 +555,10 @@ uint32_t CALL(read_command)(const uint8_t *restrict packet, size_t packet_bytes,
         pool = get16(packet + 10);
         if (pool > 1)
             return 9;
+    } else if (code >= CODE_VALUE) {
+        size = code == CODE_BY_NAME ? get16(packet + 64) : 0;
+        if (bad_name(packet) || (code == CODE_BY_NAME && size == 0))
+            return 9;
     }
     command[0] = code;
     command[1] = get16(packet + 2) & 0x3FFF;
@@ -434,11 +567,17 @@ uint32_t CALL(read_command)(const uint8_t *restrict packet, size_t packet_bytes,
     command[4] = size;
     command[5] = address;
     command[6] = pool;
+    memset(command + 7, 0, 4 * (COMMAND_WORDS - 7));
     if (code == CODE_LOAD)
         for (uint32_t i = 0; i < LOAD_WORDS; i++)
             command[7 + i] = get32(packet + 16 + 4 * i);
-    else
-        memset(command + 7, 0, 4 * LOAD_WORDS);
+    else if (code >= CODE_VALUE) {
+        for (uint32_t i = 0; i < NAME_WORDS; i++)
+            command[7 + i] = get32(packet + 12 + 4 * i);
+        command[19] = packet[10];
+        if (code == CODE_BY_NAME)
+            command[20] = get32(packet + 60);
+    }
     return 0;
 }
 

@@ -10,16 +10,16 @@
 
 enum { OURS, GCC, CLANG, EMPTY, LIBRARIES };
 enum kind { START_UP, COMMAND, BATCH, SLOT, WRITE, READ, READ_PACKET, SINGLES }; /* SINGLES: the items of a batch by single calls */
-enum { UNIT = 2, POOL_WORDS = 1 << 20, IMAGE_WORDS = POOL_WORDS + 65536, BUFFER_BYTES = 4096, ROUNDS = 41, SMOKE_ROUNDS = 3, MAX_CASES = 64,
-       MAX_ITEMS = LG_BATCH_ITEMS + 2 };
+enum { UNIT = 2, POOL_WORDS = 1 << 20, IMAGE_WORDS = POOL_WORDS + 65536, BUFFER_BYTES = 4096, ROUNDS = 41, SMOKE_ROUNDS = 3, MAX_CASES = 80,
+       MAX_ITEMS = LG_BATCH_ITEMS + 2, SYMBOLS = 256 };
 enum { S_POOLS = 49, S_PLACES = 54, S_LAST = 74 };
 
 struct library {
     const char *name;
     uint32_t (*start_up)(const uint32_t *, size_t, uint32_t *, size_t);
-    uint32_t (*command)(uint32_t *, size_t, const uint8_t *, size_t, uint32_t *, size_t, uint8_t *, size_t, uint32_t *);
-    uint32_t (*commands)(uint32_t *, size_t, const uint8_t *, size_t, const uint32_t *, size_t, const uint32_t *, size_t, uint32_t *, size_t,
-                         uint8_t *, size_t, struct lg_answer *, size_t);
+    uint32_t (*command)(uint32_t *, size_t, const uint8_t *, size_t, const uint8_t *, size_t, uint32_t *, size_t, uint8_t *, size_t, uint32_t *);
+    uint32_t (*commands)(uint32_t *, size_t, const uint8_t *, size_t, const uint32_t *, size_t, const uint32_t *, size_t, const uint8_t *, size_t,
+                         uint32_t *, size_t, uint8_t *, size_t, struct lg_answer *, size_t);
     uint32_t (*slot)(uint32_t *, size_t, uint32_t, const uint32_t *, size_t, uint8_t *, size_t, uint32_t *);
     uint32_t (*write_command)(const uint32_t *, size_t, uint8_t *, size_t, uint32_t *);
     uint32_t (*read_command)(const uint8_t *, size_t, uint32_t *, size_t);
@@ -30,10 +30,11 @@ struct library {
 #define NOTHING { __asm__ volatile(""); return 0; }
 #define U __attribute__((unused))
 static uint32_t no_start_up(U const uint32_t *t, U size_t n, U uint32_t *s, U size_t m) NOTHING
-static uint32_t no_command(U uint32_t *s, U size_t n, U const uint8_t *p, U size_t b, U uint32_t *i, U size_t w, U uint8_t *r, U size_t l,
-                           U uint32_t *x) NOTHING
+static uint32_t no_command(U uint32_t *s, U size_t n, U const uint8_t *p, U size_t b, U const uint8_t *y, U size_t z, U uint32_t *i, U size_t w,
+                           U uint8_t *r, U size_t l, U uint32_t *x) NOTHING
 static uint32_t no_commands(U uint32_t *s, U size_t n, U const uint8_t *p, U size_t b, U const uint32_t *f, U size_t c, U const uint32_t *g,
-                            U size_t d, U uint32_t *i, U size_t w, U uint8_t *r, U size_t l, U struct lg_answer *a, U size_t k) NOTHING
+                            U size_t d, U const uint8_t *y, U size_t z, U uint32_t *i, U size_t w, U uint8_t *r, U size_t l,
+                            U struct lg_answer *a, U size_t k) NOTHING
 static uint32_t no_slot(U uint32_t *s, U size_t n, U uint32_t t, U const uint32_t *i, U size_t w, U uint8_t *b, U size_t l,
                         U uint32_t *x) NOTHING
 static uint32_t no_write(U const uint32_t *c, U size_t n, U uint8_t *b, U size_t l, U uint32_t *x) NOTHING
@@ -51,8 +52,8 @@ static const struct library libraries[LIBRARIES] = {
  * are in `packet`. */
 struct input {
     uint32_t state[LG_STATE_WORDS], words[LG_TABLE_WORDS], starts[MAX_ITEMS], lengths[MAX_ITEMS];
-    uint8_t packet[BUFFER_BYTES];
-    size_t packet_bytes, image_words, buffer_bytes, starts_count, lengths_count, answers_count;
+    uint8_t packet[BUFFER_BYTES], symbols[LG_SYMBOL_BYTES * SYMBOLS];
+    size_t packet_bytes, symbols_bytes, image_words, buffer_bytes, starts_count, lengths_count, answers_count;
 };
 
 struct test {
@@ -64,6 +65,7 @@ struct test {
     double units;            /* regions, words or blocks of a line of a growth table */
     double bytes, blocks;    /* moved or walked by one call, for the rate */
     double items;            /* of a batch, for the rate */
+    double records;          /* of a symbol table, for the rate */
     struct input in;
     int changed;             /* words of the state that the call changes, restored before each call */
     uint32_t index[LG_STATE_WORDS], value[LG_STATE_WORDS];
@@ -236,6 +238,76 @@ static struct test *pool_case(const char *name, void (*fill)(uint32_t), uint32_t
     return t;
 }
 
+/* A name as the words of a command block, and its length. */
+static void put_name(uint32_t words[LG_COMMAND_WORDS], const char *name)
+{
+    size_t length = strlen(name);
+    for (size_t i = 0; i < length; i++)
+        words[7 + i / 4] |= (uint32_t)(uint8_t)name[i] << (24 - 8 * (i % 4));
+    words[19] = (uint32_t)length;
+}
+
+/* The name of record i: "s" and the number; or 48 bytes that differ in the last one alone, which is not 0 (in the one before it for record 255). */
+static const char *symbol_name(uint32_t i, int wide)
+{
+    static char name[49];
+    if (wide)
+        snprintf(name, sizeof name, "%047d%c", 0, (int)(i % 255 + 1));
+    else
+        snprintf(name, sizeof name, "s%u", (unsigned)i);
+    if (wide && i >= 255)
+        name[46] = '1';
+    return name;
+}
+
+/* `count` symbols: values from the start of region 1 on, 4 apart; the last one, if there are more, an alias of the first. */
+static void lend_symbols(struct input *in, uint32_t count, int wide)
+{
+    in->symbols_bytes = LG_SYMBOL_BYTES * count;
+    memset(in->symbols, 0, sizeof in->symbols);
+    for (uint32_t i = 0; i < count; i++) {
+        const char *name = symbol_name(i, wide);
+        uint8_t *p = in->symbols + LG_SYMBOL_BYTES * i;
+        uint32_t alias = i > 0 && i == count - 1, number = alias ? 0 : region_start(1) + 4 * i;
+        p[0] = (uint8_t)alias;
+        p[1] = (uint8_t)strlen(name);
+        memcpy(p + 4, name, strlen(name));
+        for (int k = 0; k < 4; k++)
+            p[52 + k] = (uint8_t)(number >> (24 - 8 * k));
+    }
+}
+
+/* The value of the last of `records` symbols, or a dump of 3,000 words from 16 bytes after it on. */
+static struct test *symbol_case(const char *name, uint32_t code, uint32_t records, int wide, double bound)
+{
+    uint32_t words[LG_COMMAND_WORDS] = { code, 1, UNIT, 0x321, 3000 };
+    struct test *t;
+    put_name(words, symbol_name(records - 1, wide));
+    words[20] = 16;
+    t = command_case(name, 4, 0, words, bound);
+    lend_symbols(&t->in, records, wide);
+    t->records = records;
+    return t;
+}
+
+/* The values of the last 64 of 256 symbols. */
+static struct test *symbol_batch_case(const char *name, enum kind kind, double bound)
+{
+    struct test *t = batch_case(name, kind, bound);
+    struct input *in = &t->in;
+    lend_symbols(in, SYMBOLS, 1);
+    t->records = SYMBOLS;
+    for (uint32_t i = 0; i < LG_BATCH_ITEMS; i++) {
+        uint32_t words[LG_COMMAND_WORDS] = { 8, i, UNIT, 0x321 };
+        put_name(words, symbol_name(SYMBOLS - LG_BATCH_ITEMS + i, 1));
+        in->starts[i] = 60 * i;
+        if (lg_write_command(words, LG_COMMAND_WORDS, in->packet + in->starts[i], 60, &in->lengths[i]) != 0)
+            abort();
+    }
+    in->packet_bytes = 60 * LG_BATCH_ITEMS;
+    return t;
+}
+
 /* The fullest good state: sixteen regions, two pools, four dumps busy, the ranges in the last regions. */
 static void fill_state(struct input *in, uint32_t dumps)
 {
@@ -257,8 +329,11 @@ static void cases(void)
     const uint32_t nothing[LG_COMMAND_WORDS] = { 1, 1, UNIT, 0x124 };
     const uint32_t pool[LG_COMMAND_WORDS] = { 7, 1, UNIT, 0x321, 0, 0, 1 };
     const uint32_t elsewhere[LG_COMMAND_WORDS] = { 0, 1, UNIT + 1, 0x321, 3000, region_start(1) };
+    uint32_t by_name[LG_COMMAND_WORDS] = { 9, 1, UNIT, 0x321, 3000 };
     struct test *t;
 
+    put_name(by_name, "instrument_table");
+    by_name[20] = (uint32_t)-64;
     slot_case("slot of 1,016 words", 4, 3000, 1.2);
     t = slot_case("slot of 1,016 words, fullest state", 16, 3000, 1.2);
     fill_state(&t->in, 4);
@@ -286,16 +361,35 @@ static void cases(void)
     t->number = 16;
     batch_case("batch of 64: dumps, loads and cancels", BATCH, 2);
     batch_case("64 single calls: the same packets", SINGLES, 2);
+    symbol_batch_case("batch of 64: values of 256 symbols", BATCH, 1.2);
+    symbol_batch_case("64 single calls: the same values", SINGLES, 1.2);
+    t = command_case("dump, 256 symbols lent", 4, 0, dump, 2);
+    lend_symbols(&t->in, SYMBOLS, 1);
+    symbol_case("value of a symbol, 1 symbol", 8, 1, 0, 2);
+    symbol_case("dump by name, 1 symbol", 9, 1, 0, 2);
+    symbol_case("value of a symbol, 256 short names", 8, SYMBOLS, 0, 1.2);
+    symbol_case("value of a symbol, 256 names alike to the last of 48 bytes", 8, SYMBOLS, 1, 1.2);
+    t = symbol_case("refused: no symbol table, the last of 256 is wrong (17)", 8, SYMBOLS, 1, 1.2);
+    t->in.symbols[LG_SYMBOL_BYTES * (SYMBOLS - 1)] = 2;
+    t->number = 17;
+    t = symbol_case("refused: unknown name, 1 symbol (18)", 8, 1, 0, 2);
+    t->in.symbols[4] = 't';
+    t->number = 18;
     pool_case("pool of 2^20 words, blocks of 1 to 8", small_blocks, 0, 1.2);
     pool_case("pool of 2^20 words, blocks of 32 to 256", middle_blocks, 0, 1.2);
     t = add("command writer, dump", WRITE, 0, 2);
     command(&t->in, dump);
     t = add("command writer, load of 11", WRITE, 0, 2);
     command(&t->in, load);
+    t = add("command writer, dump by name", WRITE, 0, 2);
+    t->in.buffer_bytes = 68;
+    command(&t->in, by_name);
     t = add("command reader, dump", READ, 0, 2);
     command(&t->in, dump);
     t = add("command reader, load of 11", READ, 0, 2);
     command(&t->in, load);
+    t = add("command reader, dump by name", READ, 0, 2);
+    command(&t->in, by_name);
     t = slot_case("dump packet reader, 4,092 bytes", 1, 3000, 2);
     t->kind = READ_PACKET;
     t->bytes = 0; /* it passes over no data */
@@ -311,6 +405,8 @@ static void cases(void)
 
 /* ---- Calls ---- */
 
+static const uint8_t *symbols(const struct input *in) { return in->symbols_bytes ? in->symbols : NULL; }
+
 static int inside(const struct input *in, uint32_t item)
 {
     return (uint64_t)in->starts[item] + in->lengths[item] <= in->packet_bytes;
@@ -322,7 +418,8 @@ __attribute__((noinline)) static uint32_t singles(const struct library *l, const
     for (uint32_t i = 0; i < in->starts_count; i++) {
         int whole = inside(in, i);
         lent.answers[i].number = l->command(lent.state, LG_STATE_WORDS, whole ? in->packet + in->starts[i] : in->packet, whole ? in->lengths[i] : 0,
-                                            img, in->image_words, lent.buffer + 32 * i, 32, &lent.answers[i].length);
+                                            symbols(in), in->symbols_bytes, img, in->image_words, lent.buffer + 32 * i, 32,
+                                            &lent.answers[i].length);
         all |= lent.answers[i].number;
     }
     return all;
@@ -334,11 +431,11 @@ __attribute__((always_inline)) static inline uint32_t call(const struct library 
     switch (t->kind) {
     case START_UP: return l->start_up(in->words, LG_TABLE_WORDS, lent.state, LG_STATE_WORDS);
     case COMMAND:
-        return l->command(lent.state, LG_STATE_WORDS, in->packet, in->packet_bytes, img, in->image_words, lent.buffer, in->buffer_bytes,
-                          &lent.length);
+        return l->command(lent.state, LG_STATE_WORDS, in->packet, in->packet_bytes, symbols(in), in->symbols_bytes, img, in->image_words, lent.buffer,
+                          in->buffer_bytes, &lent.length);
     case BATCH:
-        return l->commands(lent.state, LG_STATE_WORDS, in->packet, in->packet_bytes, in->starts, in->starts_count, in->lengths, in->lengths_count, img,
-                           in->image_words, lent.buffer, in->buffer_bytes, lent.answers, in->answers_count);
+        return l->commands(lent.state, LG_STATE_WORDS, in->packet, in->packet_bytes, in->starts, in->starts_count, in->lengths, in->lengths_count,
+                           symbols(in), in->symbols_bytes, img, in->image_words, lent.buffer, in->buffer_bytes, lent.answers, in->answers_count);
     case SINGLES: return singles(l, in, img);
     case SLOT: return l->slot(lent.state, LG_STATE_WORDS, 5, img, in->image_words, lent.buffer, in->buffer_bytes, &lent.length);
     case WRITE: return l->write_command(in->words, LG_COMMAND_WORDS, lent.buffer, in->buffer_bytes, &lent.length);
@@ -417,8 +514,23 @@ static void change_lists(struct input *in, uint32_t value)
     }
 }
 
-/* The case as it is, and then with one to three random changes of the state, the packet, the block or a batch's lists; half of the packets get a right
- * check byte. How many of these were tried. */
+/* One random change of the symbols: a byte of a record, most often one of those that are not the name, a record's name, or the length. */
+static void change_symbols(struct input *in)
+{
+    uint32_t records = (uint32_t)(in->symbols_bytes / LG_SYMBOL_BYTES), from = random_below(records), to = random_below(records);
+    static const uint8_t fields[] = { 0, 1, 2, 3, 4, 50, 51, 52, 53, 54, 55, 55 };
+    uint8_t *p = in->symbols + LG_SYMBOL_BYTES * to;
+    switch (random_below(6)) {
+    case 0: memcpy(p + 1, in->symbols + LG_SYMBOL_BYTES * from + 1, 51); break;
+    case 1: p[0] = 1, p[52] = p[53] = p[54] = 0, p[55] = (uint8_t)from; break;
+    case 2: p[random_below(LG_SYMBOL_BYTES)] ^= (uint8_t)(1u << random_below(8)); break;
+    case 3: in->symbols_bytes = random_below(2) ? in->symbols_bytes - 1 - random_below(56) : LG_SYMBOL_BYTES * random_below(records + 1); break;
+    default: p[fields[random_below(sizeof fields)]] = (uint8_t)(random_below(2) ? random_below(4) : 46 + random_below(4)); break;
+    }
+}
+
+/* The case as it is, and then with one to three random changes of the state, the packet, the block, the symbols or a batch's lists; half of the
+ * packets get a right check byte. How many of these were tried. */
 static int check(struct test *t, int tries)
 {
     static const uint32_t values[] = { 0, 1, 2, 3, 4, 10, 11, 12, 15, 16, 255, 256, 1016, 2032, 4095, 4096, 16383, 16384, 65535, 65536, 1 << 20,
@@ -439,6 +551,8 @@ static int check(struct test *t, int tries)
         }
     if (t->in.image_words > 65536)
         return 0;
+    if (is_batch(t) && t->records > 0) /* these take long */
+        tries /= 20;
     seed = random;
     for (int i = 0; i < tries; i++) {
         other = *t;
@@ -449,12 +563,14 @@ static int check(struct test *t, int tries)
             uint32_t *word = words + random_below(bound), v = values[random_below(sizeof values / sizeof values[0])];
             if (is_batch(t) && random_below(2))
                 change_lists(&other.in, v);
+            else if (other.in.symbols_bytes >= LG_SYMBOL_BYTES && random_below(2))
+                change_symbols(&other.in);
             else if (other.in.packet_bytes > 0 && random_below(2)) {
                 size_t early = other.in.packet_bytes < 28 || is_batch(t) || random_below(9) == 0 ? other.in.packet_bytes : 28;
                 uint8_t *byte = other.in.packet + random_below((uint32_t)early);
                 *byte = (uint8_t)(random_below(2) ? *byte ^ 1u << random_below(8) : random_below(256));
                 if (random_below(20) == 0)
-                    other.in.packet_bytes = random_below(is_batch(t) ? (uint32_t)other.in.packet_bytes : 62);
+                    other.in.packet_bytes = random_below(is_batch(t) ? (uint32_t)other.in.packet_bytes : 70);
             } else
                 *word = random_below(2) ? v : random_below(2) ? *word + v : *word - v;
         }
@@ -564,6 +680,8 @@ static void rate(char *text, size_t size, const struct test *t, double ns)
         snprintf(text, size, "%.2f ns/block", ns / t->blocks);
     else if (t->items > 0)
         snprintf(text, size, "%.2f ns/item", ns / t->items);
+    else if (t->records > 1)
+        snprintf(text, size, "%.2f ns/record", ns / t->records);
     else if (t->bytes >= 1024)
         snprintf(text, size, "%.2f GB/s", t->bytes / ns);
     else
@@ -606,10 +724,10 @@ static void growth(const char *title, const char *unit, int all, const struct te
 static void batch_table(int listed)
 {
     printf("\nA batch beside the single calls of its items (best of the rounds)\n\n");
-    printf("| Library | batch, ns | single calls, ns | batch to single calls |\n|---|---|---|---|\n");
+    printf("| Library | Case | batch, ns | single calls, ns | batch to single calls |\n|---|---|---|---|---|\n");
     for (const struct test *t = tests; t + 1 < tests + listed; t++)
         for (int l = 0; l < EMPTY && t->kind == BATCH; l++)
-            printf("| %s | %.1f | %.1f | %.2f |\n", libraries[l].name, t->best[l], t[1].best[l], t->best[l] / t[1].best[l]);
+            printf("| %s | %s | %.1f | %.1f | %.2f |\n", libraries[l].name, t->name, t->best[l], t[1].best[l], t->best[l] / t[1].best[l]);
 }
 
 /* ---- Stack ---- */
@@ -665,7 +783,7 @@ static void stack_table(int listed)
 static void growth_cases(void)
 {
     static const uint32_t regions[] = { 1, 2, 4, 8, 16 }, words[] = { 1, 16, 64, 256, 512, 1016 };
-    static const uint32_t blocks[] = { 1, 16, 256, 4096, 65536, 1 << 20 };
+    static const uint32_t blocks[] = { 1, 16, 256, 4096, 65536, 1 << 20 }, records[] = { 1, 16, 64, 128, 256 };
     for (int i = 0; i < 5; i++)
         slot_case("slot of 1,016 words by regions", regions[i], 3000, 0)->units = regions[i];
     for (int i = 0; i < 5; i++)
@@ -678,6 +796,8 @@ static void growth_cases(void)
         const uint32_t dump[LG_COMMAND_WORDS] = { 0, 1, UNIT, 0x321, 3000, region_start(regions[i] - 1) };
         command_case("dump by regions", regions[i], 0, dump, 0)->units = regions[i];
     }
+    for (int i = 0; i < 5; i++)
+        symbol_case("value by records", 8, records[i], 1, 0)->units = records[i];
 }
 
 int main(int argc, char **argv)
@@ -720,9 +840,10 @@ int main(int argc, char **argv)
     growth("Slot against words, four regions", "Words", 0, &tests[listed + 10], 6);
     growth("Pool of 2^20 words against blocks of equal size, used or free by chance", "Blocks", 1, &tests[listed + 16], 6);
     growth("Dump command against regions, the range in the last", "Regions", 0, &tests[listed + 22], 5);
+    growth("Value of the last symbol against records, names alike to the last of 48 bytes", "Records", 0, &tests[listed + 27], 5);
     stack_table(listed);
-    printf("\n%d of %d cases are within their bounds (1.2 for slots of 1,016 words and pools, 2 for short calls).%s", within, listed,
-           within < listed ? " Not within:" : "");
+    printf("\n%d of %d cases are within their bounds (1.2 for slots of 1,016 words, pools and tables of 256 symbols, 2 for short calls).%s", within,
+           listed, within < listed ? " Not within:" : "");
     for (int i = 0; i < listed; i++)
         if (tests[i].ratio > tests[i].bound)
             printf("%s %s (%.2f)", missed++ ? ";" : "", tests[i].name, tests[i].ratio);

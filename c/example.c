@@ -1,5 +1,5 @@
-/* A pass through the C interface: start-up, a dump, a load, pool statistics, slots until the dump is whole, a batch, refusals, and blocks that
- * are none.
+/* A pass through the C interface: start-up, a dump, a load, pool statistics, slots until the dump is whole, a batch, a symbol's value and dumps by
+ * its name, refusals, and blocks that are none.
  * It prints what it does, and exits 0 only if all is as expected.
  *   rt staticlib capi && gcc -O2 -Wall -Wextra -o example c/example.c target/staticlib/libcapi.a && ./example */
 #include "leatgarnet.h"
@@ -18,7 +18,9 @@ static void expect(const char *what, uint32_t got, uint32_t want)
 
 static uint32_t state[LG_STATE_WORDS];
 static uint32_t image[IMAGE_WORDS];
-static uint8_t packet[60], reply[32], telemetry[4092];
+static uint8_t packet[68], reply[32], telemetry[4092];
+static uint8_t symbols[4 * LG_SYMBOL_BYTES];
+static size_t symbols_bytes;
 
 /* A command written, read back, and sent. */
 static uint32_t send(const char *name, const uint32_t command[LG_COMMAND_WORDS])
@@ -28,8 +30,8 @@ static uint32_t send(const char *name, const uint32_t command[LG_COMMAND_WORDS])
     expect("write", lg_write_command(command, LG_COMMAND_WORDS, packet, sizeof packet, &bytes), 0);
     expect("read", lg_read_command(packet, bytes, again, LG_COMMAND_WORDS), 0);
     expect("read back as written", memcmp(again, command, sizeof again) == 0, 1);
-    number = lg_command(state, LG_STATE_WORDS, packet, bytes, image, IMAGE_WORDS, reply, sizeof reply, &reply_bytes);
-    expect("reply bytes", reply_bytes, number == 0 && command[0] == 7 ? 32 : 0);
+    number = lg_command(state, LG_STATE_WORDS, packet, bytes, symbols, symbols_bytes, image, IMAGE_WORDS, reply, sizeof reply, &reply_bytes);
+    expect("reply bytes", reply_bytes, number != 0 ? 0 : command[0] == 7 ? 32 : command[0] == 8 ? 12 : 0);
     return number;
 }
 
@@ -132,8 +134,8 @@ static void batch(void)
         answers[i] = untouched;
 
     expect("bytes", load_bytes + 2 * pool_bytes, sizeof bytes);
-    expect("batch", lg_commands(state, LG_STATE_WORDS, bytes, sizeof bytes, starts, ITEMS, lengths, ITEMS, image, IMAGE_WORDS, replies,
-                                sizeof replies, answers, RECORDS), 0);
+    expect("batch", lg_commands(state, LG_STATE_WORDS, bytes, sizeof bytes, starts, ITEMS, lengths, ITEMS, NULL, 0, image, IMAGE_WORDS,
+                                replies, sizeof replies, answers, RECORDS), 0);
     expect("load", answers[0].number, 0);
     expect("its reply", answers[0].length, 0);
     expect("its word", image[2000], 0x80000008);
@@ -155,12 +157,64 @@ static void batch(void)
     memcpy(before, state, sizeof before);
     for (int i = 0; i < RECORDS; i++)
         answers[i] = untouched;
-    expect("lists of unequal length", lg_commands(state, LG_STATE_WORDS, bytes, sizeof bytes, starts, ITEMS, lengths, ITEMS - 1, image, IMAGE_WORDS,
-                                                  replies, sizeof replies, answers, RECORDS), 3);
-    expect("six items, replies for five", lg_commands(state, LG_STATE_WORDS, bytes, sizeof bytes, starts, ITEMS + 1, lengths, ITEMS + 1, image,
-                                                      IMAGE_WORDS, replies, sizeof replies, answers, RECORDS), 3);
+    expect("lists of unequal length", lg_commands(state, LG_STATE_WORDS, bytes, sizeof bytes, starts, ITEMS, lengths, ITEMS - 1, NULL, 0, image,
+                                                  IMAGE_WORDS, replies, sizeof replies, answers, RECORDS), 3);
+    expect("six items, replies for five", lg_commands(state, LG_STATE_WORDS, bytes, sizeof bytes, starts, ITEMS + 1, lengths, ITEMS + 1, NULL, 0,
+                                                      image, IMAGE_WORDS, replies, sizeof replies, answers, RECORDS), 3);
     expect("state left as it was", memcmp(before, state, sizeof before) == 0, 1);
     expect("records left as they were", memcmp(&answers[0], &untouched, sizeof untouched) == 0, 1);
+}
+
+/* A name of up to 48 characters in the words of a command block: four to a word, the first in the top bits; and its length. */
+static void put_name(uint32_t command[LG_COMMAND_WORDS], const char *name)
+{
+    size_t length = strlen(name);
+    for (size_t i = 0; i < length; i++)
+        command[7 + i / 4] |= (uint32_t)(unsigned char)name[i] << (24 - 8 * (i % 4));
+    command[19] = (uint32_t)length;
+}
+
+/* One more record of the symbol table: kind 0 and a value, or kind 1 and the number of an earlier record. */
+static void put_symbol(uint8_t kind, const char *name, uint32_t number)
+{
+    uint8_t *record = symbols + symbols_bytes;
+    size_t length = strlen(name);
+    memset(record, 0, LG_SYMBOL_BYTES);
+    record[0] = kind, record[1] = (uint8_t)length;
+    memcpy(record + 4, name, length);
+    for (int i = 0; i < 4; i++)
+        record[52 + i] = (uint8_t)(number >> (24 - 8 * i));
+    symbols_bytes += LG_SYMBOL_BYTES;
+}
+
+static void by_name(void)
+{
+    uint32_t value[LG_COMMAND_WORDS] = { 8, 7, UNIT, 92 }, dump[LG_COMMAND_WORDS] = { 9, 8, UNIT, 93, 2 };
+    uint32_t unknown[LG_COMMAND_WORDS] = { 8, 9, UNIT, 94 }, refused = state[78], length;
+    put_symbol(0, "orbit_table", FIRST + 400);
+    put_symbol(0, "orbit_table_end", FIRST + 440);
+    put_symbol(1, "end", 1);                                               /* of the record before it */
+    put_symbol(1, "table_end", 2);                                         /* of an alias */
+    put_name(value, "orbit_table");
+    put_name(dump, "table_end");
+    dump[20] = (uint32_t)-8;                                               /* the two words before it */
+    put_name(unknown, "orbit_tab");
+
+    expect("value", send("value of a symbol", value), 0);
+    expect("APID", (reply[0] & 7u) << 8 | reply[1], 786);
+    expect("its count", state[79], 1);
+    expect("value", big_endian(reply + 8), FIRST + 400);
+    expect("dump", send("dump by name, through two aliases", dump), 0);
+    expect("address", state[56], FIRST + 432);
+    expect("slot", lg_slot(state, LG_STATE_WORDS, 9, image, IMAGE_WORDS, telemetry, sizeof telemetry, &length), 0);
+    expect("bytes", length, 28 + 8);
+    expect("first word", big_endian(telemetry + 28), image[108]);
+    expect("unknown name", send("the beginning of a name", unknown), 18);
+    symbols[3 * LG_SYMBOL_BYTES + 55] = 3;
+    expect("alias of itself", send("a table that is none", value), 17);
+    symbols_bytes--;
+    expect("a byte too few", send("another one", dump), 17);
+    expect("refused count", state[78], refused + 3);
 }
 
 static void refusals(void)
@@ -173,7 +227,7 @@ static void refusals(void)
     expect("refused count", state[78], refused + 1);
     expect("function code 2", lg_write_command(other_code, LG_COMMAND_WORDS, packet, sizeof packet, &length), 6);
     expect("size of 17 bits", lg_write_command(wide_size, LG_COMMAND_WORDS, packet, sizeof packet, &length), 9);
-    expect("command block of 17 words", lg_write_command(no_right, 17, packet, sizeof packet, &length), 3);
+    expect("command block of 20 words", lg_write_command(no_right, 20, packet, sizeof packet, &length), 3);
     expect("its length", length, 0);
     expect("no packet", lg_read_packet(packet, 0, fields, LG_PACKET_WORDS, &data_bytes), 4);
     expect("its bytes", data_bytes, 0);
@@ -183,7 +237,7 @@ static void refusals(void)
     expect("unit out of bounds", lg_slot(state, LG_STATE_WORDS, 0, image, IMAGE_WORDS, telemetry, sizeof telemetry, &length), 1);
     expect("state left as it was", memcmp(before, state, sizeof before) == 0, 1);
     state[53] = UNIT;
-    expect("state block of 78 words", lg_slot(state, 78, 0, image, IMAGE_WORDS, telemetry, sizeof telemetry, &length), 1);
+    expect("state block of 79 words", lg_slot(state, 79, 0, image, IMAGE_WORDS, telemetry, sizeof telemetry, &length), 1);
 }
 
 int main(void)
@@ -196,6 +250,7 @@ int main(void)
     pool();
     slots();
     batch();
+    by_name();
     refusals();
     printf(failed ? "FAILED\n" : "all as expected\n");
     return failed;

@@ -1,5 +1,5 @@
-/* The C interface of the memory service (paper 01), for x86-64. Nothing is allocated and nothing is kept between calls: all state is in the block
- * that the caller lends. Each call returns a result number of the paper. What a call asks of its caller:
+/* The C interface of the memory service (paper 01; paper 02, A1 and A2), for x86-64. Nothing is allocated and nothing is kept between calls: all state
+ * is in the block that the caller lends. Each call returns a result number of the papers. What a call asks of its caller:
  *   - a pointer and its length say what is lent; a length of 0 lends nothing, and its pointer may be anything;
  *   - words and answer records are aligned to 4 bytes;
  *   - the pointer to a length that a call sets points to a word;
@@ -14,7 +14,7 @@
 extern "C" {
 #endif
 
-/* THE STATE BLOCK: 79 words of 32 bits, in the machine's byte order.
+/* THE STATE BLOCK: 80 words of 32 bits, in the machine's byte order.
  *   0        number of regions in use
  *   1..48    sixteen regions, three words each: start address, size in words, rights (0 none, 1 load, 2 dump, 3 both)
  *   49..52   pools 0 and 1, two words each: start address, size in words
@@ -24,10 +24,11 @@ extern "C" {
  *   74       last place served
  *   75, 76   packet counts of APID 785 and of APID 788
  *   77, 78   accepted and refused counts
+ *   79       packet count of APID 786
  * lg_command and lg_slot answer 1 to a block that is no good state: of another length, with a word that its field can't hold (rights over 3, in an
  * entry that is not in use too; busy over 1; an idle place that is not five zeros; unit or last over 255; transaction or a count over 65,535), or
  * with a state that breaks a rule of the paper. lg_commands answers 1 so to each of its items. */
-#define LG_STATE_WORDS 79
+#define LG_STATE_WORDS 80
 
 /* THE TABLE BLOCK, for start-up: 54 words.
  *   0 unit; 1 number of regions; 2..5 pools 0 and 1: start, size; 6..53 sixteen regions: start, size, rights, as in the state. */
@@ -38,12 +39,23 @@ extern "C" {
  * length: 17, and nothing is written. */
 uint32_t lg_start_up(const uint32_t *table, size_t table_words, uint32_t *state, size_t state_words);
 
-/* Numbers 0 to 15. `reply` has at least 32 bytes for every command, else 3. `reply_length` is set to the bytes written to it: 32 after pool
- * statistics, else 0. */
-uint32_t lg_command(uint32_t *state, size_t state_words, const uint8_t *packet, size_t packet_bytes, uint32_t *image, size_t image_words,
-                    uint8_t *reply, size_t reply_bytes, uint32_t *reply_length);
+/* THE SYMBOL TABLE, for codes 8 and 9: up to 256 records of 56 bytes, numbered from 0; none is a table too. Numbers are big-endian.
+ *   0        kind: 0 a value, 1 an alias
+ *   1        bytes of the name, 1 to 48
+ *   2, 3     zero
+ *   4..51    the name, and zeros after it; no two records have one name
+ *   52..55   the value, or of an alias the number of a lower-numbered record, through which it is resolved
+ * Other commands never look at it. */
+#define LG_SYMBOL_BYTES 56
 
-/* What one item of a batch got: its number, as lg_command gives it but never 3, and the bytes of its reply: 32 after pool statistics, else 0. */
+/* Numbers 0 to 15, 17 and 18. For codes 8 and 9 the order of the tests is 1 to 8; 17 if `symbols` is no table; 9 for the name's size, the pad and the
+ * zero bits; 18 if the table has no such name; and for code 9 then 9 for the address and size, and 10 to 13. `reply` has at least 32 bytes for every
+ * command, else 3. `reply_length` is set to the bytes written to it: 32 after pool statistics, 12 after the value of a symbol, else 0. */
+uint32_t lg_command(uint32_t *state, size_t state_words, const uint8_t *packet, size_t packet_bytes, const uint8_t *symbols, size_t symbols_bytes,
+                    uint32_t *image, size_t image_words, uint8_t *reply, size_t reply_bytes, uint32_t *reply_length);
+
+/* What one item of a batch got: its number, as lg_command gives it but never 3, and the bytes of its reply: 32 after pool statistics, 12 after the
+ * value of a symbol, else 0. */
 struct lg_answer {
     uint32_t number, length;
 };
@@ -53,29 +65,37 @@ struct lg_answer {
 
 /* A batch: up to 64 commands in one call, as that many calls of lg_command in their order, refused ones included; each finds the state and the
  * image as the one before left them. The packet of item i is `lengths[i]` bytes of `bytes` from byte `starts[i]` on; items may overlap. One that
- * leaves the buffer (start plus length past its end; the sum does not wrap) is an empty packet, not a shortened one. Its reply buffer is bytes 32 i
- * to 32 i + 31 of `replies`, and record i of `answers`, an array of `answers_count` records, gets its number and reply length.
+ * leaves the buffer (start plus length past its end; the sum does not wrap) is an empty packet, not a shortened one. All items are lent the one
+ * symbol table. The reply buffer of item i is bytes 32 i to 32 i + 31 of `replies`, and record i of `answers`, an array of `answers_count` records, gets
+ * its number and reply length.
  * 3 for over 64 items, `starts_count` other than `lengths_count`, fewer records than items, or `replies` shorter than 32 bytes for each item: before
  * any other test, and nothing changes. Else 0, whatever the items got; with a block that is no good state each gets 1. Records beyond the items
  * stay, and so does each byte of `replies` that no item writes. */
 uint32_t lg_commands(uint32_t *state, size_t state_words, const uint8_t *bytes, size_t bytes_length, const uint32_t *starts, size_t starts_count,
-                     const uint32_t *lengths, size_t lengths_count, uint32_t *image, size_t image_words, uint8_t *replies, size_t replies_bytes,
-                     struct lg_answer *answers, size_t answers_count);
+                     const uint32_t *lengths, size_t lengths_count, const uint8_t *symbols, size_t symbols_bytes, uint32_t *image, size_t image_words,
+                     uint8_t *replies, size_t replies_bytes, struct lg_answer *answers, size_t answers_count);
 
 /* Numbers 0, 1, 2, 3 and 16. `buffer` has at least 4,092 bytes, else 3. `length` is set to the bytes of the packet in it, 0 if refused. */
 uint32_t lg_slot(uint32_t *state, size_t state_words, uint32_t tick, const uint32_t *image, size_t image_words, uint8_t *buffer,
                  size_t buffer_bytes, uint32_t *length);
 
-/* THE COMMAND BLOCK: 18 words: function code, sequence count, unit, transaction, size, address, pool, and eleven data words. Words that the
- * code does not use are not read when writing, and 0 when read. A load's data words beyond its size are written as 0, and read as they stand in
- * the packet. */
-#define LG_COMMAND_WORDS 18
+/* THE COMMAND BLOCK: 21 words.
+ *   0..3     function code, sequence count, unit, transaction
+ *   4, 5, 6  size in words (codes 0, 4 and 9), address (0 and 4), pool (7)
+ *   7..17    eleven data words (4)
+ *   7..18    the 48 bytes that hold a symbol's name, four to a word, the first in the top bits (8 and 9)
+ *   19       how many of them the name has (8 and 9)
+ *   20       offset in bytes from the symbol's value, two's complement (9)
+ * Words that the code does not use are not read when writing, and 0 when read. A load's data words beyond its size, and the bytes beyond a name's,
+ * are written as 0, and read as they stand in the packet. */
+#define LG_COMMAND_WORDS 21
 
 /* 0 and the packet at the start of `buffer`, its bytes in `length`. Else, in this order: 3 if the block has another length; 6 for another code than
- * 0, 1, 4 or 7; 3 if the buffer is shorter than the packet; 9 for a field out of its bounds (a size or pool over 65,535 too). */
+ * 0, 1, 4, 7, 8 or 9; 3 if the buffer is shorter than the packet; 9 for a field out of its bounds (a size or pool over 65,535 too). */
 uint32_t lg_write_command(const uint32_t *command, size_t command_words, uint8_t *buffer, size_t buffer_bytes, uint32_t *length);
 
-/* 0 and the fields in `command`; 3 if the block has another length, before all else; 4, 5, 6, 7 or 9, and `command` unchanged. */
+/* 0 and the fields in `command`; 3 if the block has another length, before all else; 4, 5, 6, 7 or 9, and `command` unchanged. For codes 8 and 9 the
+ * 9 is what can be seen without a symbol table: the name's size, the pad, the zero bits, and in code 9 a size of 0. */
 uint32_t lg_read_command(const uint8_t *packet, size_t packet_bytes, uint32_t *command, size_t command_words);
 
 /* THE DUMP PACKET BLOCK: 8 words: sequence count, unit, transaction, tick, requested address, requested words, address of this packet's data,

@@ -1,7 +1,7 @@
-/* Hostile input for the exported calls. An input is a list of steps on one state block and one image; each step is a byte that names it, then
- * what it takes. Every lent buffer is a heap block of its own, just as long as is said to the call, so that AddressSanitizer has red zones at
- * both ends; the library's own code is instrumented too (fuzz/run). Beside that, each call's refusals are held to the header: the number is
- * one of the call's, and a refusal leaves every lent buffer as it was. */
+/* Hostile input for the exported calls. An input is a list of steps on one state block, one image and one symbol table; each step is a byte that
+ * names it, then what it takes. Every lent buffer is a heap block of its own, just as long as is said to the call, so that AddressSanitizer has
+ * red zones at both ends; the library's own code is instrumented too (fuzz/run). Beside that, each call's refusals are held to the header: the
+ * number is one of the call's, and a refusal leaves every lent buffer as it was. */
 #include "../c/leatgarnet.h"
 #include <stdlib.h>
 #include <string.h>
@@ -84,7 +84,7 @@ static struct lent bytes(size_t n)
     return b;
 }
 
-static struct lent state, image;
+static struct lent state, image, symbols;
 
 static void start(void)
 {
@@ -108,18 +108,28 @@ static void make_right(struct lent packet)
     p[7] = all;
 }
 
+/* Whether a packet can get a number and a reply length: 17 and 18 are for codes 8 and 9 alone, and each code that replies has its length. */
+static int can_get(const uint8_t *packet, size_t bytes, uint32_t number, uint32_t length)
+{
+    uint32_t code = bytes >= 8 ? packet[6] : 128;
+    if (number == 0)
+        return length == (code == 7 ? 32 : code == 8 ? 12 : 0);
+    return length == 0 && (number <= 15 || ((number == 17 || number == 18) && (code == 8 || code == 9)));
+}
+
 static void command(int right)
 {
     struct lent packet = bytes(byte()), reply = lend(near(32));
     uint32_t length = 99;
     if (right)
         make_right(packet);
-    keep(packet), keep(reply), keep(state), keep(image);
-    uint32_t number = lg_command(state.now, state.bytes / 4, packet.now, packet.bytes, image.now, image.bytes / 4, reply.now, reply.bytes, &length);
-    must(number <= 15);
-    must(same(packet));
-    must(length == 0 || (number == 0 && length == 32));
-    must(number == 0 || (same(reply) && same(image)));
+    keep(packet), keep(reply), keep(state), keep(image), keep(symbols);
+    uint32_t number = lg_command(state.now, state.bytes / 4, packet.now, packet.bytes, symbols.now, symbols.bytes, image.now, image.bytes / 4,
+                                 reply.now, reply.bytes, &length);
+    must(can_get(packet.now, packet.bytes, number, length));
+    must(same(packet) && same(symbols));
+    must(length <= reply.bytes && memcmp((uint8_t *)reply.before + length, (uint8_t *)reply.now + length, reply.bytes - length) == 0);
+    must(number == 0 || same(image));
     if (number != 0 && state.bytes == 4 * LG_STATE_WORDS) {
         int counted = !(number <= 3 || number == 5 || number == 8);
         uint32_t *before = state.before;
@@ -144,7 +154,9 @@ static void one_by_one(size_t n, struct lent all, const uint32_t *starts, const 
     for (size_t k = 0; k < n; k++) {
         int inside = (uint64_t)starts[k] + lengths[k] <= all.bytes;
         struct lent packet = inside ? copy((uint8_t *)all.now + starts[k], lengths[k]) : lend(0), reply = copy((uint8_t *)r.now + 32 * k, 32);
-        uint32_t length = 99, number = lg_command(s.now, s.bytes / 4, packet.now, packet.bytes, i.now, i.bytes / 4, reply.now, 32, &length);
+        uint32_t length = 99, number = lg_command(s.now, s.bytes / 4, packet.now, packet.bytes, symbols.now, symbols.bytes, i.now, i.bytes / 4,
+                                                  reply.now, 32, &length);
+        must(can_get(packet.now, packet.bytes, number, length));
         must(answers[k].number == number && answers[k].length == length);
         memcpy((uint8_t *)r.now + 32 * k, reply.now, 32);
         give_back(packet), give_back(reply);
@@ -187,18 +199,18 @@ static void commands(int right)
         if (i < lengths_count)
             ((uint32_t *)lengths.now)[i] = length[i];
     }
-    keep(buffer), keep(starts), keep(lengths), keep(answers), keep(replies), keep(state), keep(image);
+    keep(buffer), keep(starts), keep(lengths), keep(answers), keep(replies), keep(state), keep(image), keep(symbols);
     uint32_t number = lg_commands(state.now, state.bytes / 4, buffer.now, buffer.bytes, starts.now, starts_count, lengths.now, lengths_count,
-                                  image.now, image.bytes / 4, replies.now, replies.bytes, answers.now, answers_count);
+                                  symbols.now, symbols.bytes, image.now, image.bytes / 4, replies.now, replies.bytes, answers.now, answers_count);
     size_t items = starts_count;
     int fits = items <= LG_BATCH_ITEMS && lengths_count == items && answers_count >= items && replies.bytes >= 32 * items;
     must(number == (fits ? 0 : 3));
-    must(same(buffer) && same(starts) && same(lengths));
+    must(same(buffer) && same(starts) && same(lengths) && same(symbols));
     must(fits || (same(answers) && same(replies) && same(state) && same(image)));
     if (fits) {
         const struct lg_answer *a = answers.now, *before = answers.before;
         for (size_t i = 0; i < items; i++)
-            must(a[i].number <= 15 && a[i].number != 3 && (a[i].length == 0 || (a[i].number == 0 && a[i].length == 32)));
+            must(a[i].number != 3);
         must(memcmp(a + items, before + items, answers.bytes - sizeof *a * items) == 0);
         must(memcmp((uint8_t *)replies.now + 32 * items, (uint8_t *)replies.before + 32 * items, replies.bytes - 32 * items) == 0);
         one_by_one(items, buffer, starts.now, lengths.now, replies, a);
@@ -222,9 +234,16 @@ static void slot(void)
     give_back(buffer);
 }
 
+/* The block of codes 8 and 9 has three words more, which are from the input for those codes alone. */
 static void write_command(void)
 {
-    struct lent block = words(near(LG_COMMAND_WORDS)), buffer = lend(byte());
+    struct lent first = words(near(LG_COMMAND_WORDS - 3)), block = lend(first.bytes + 12);
+    memcpy(block.now, first.now, first.bytes);
+    if (first.bytes && (*(uint32_t *)first.now == 8 || *(uint32_t *)first.now == 9))
+        for (size_t i = first.bytes / 4; i < block.bytes / 4; i++)
+            ((uint32_t *)block.now)[i] = word();
+    give_back(first);
+    struct lent buffer = lend(byte());
     uint32_t length = 99;
     keep(block), keep(buffer);
     uint32_t number = lg_write_command(block.now, block.bytes / 4, buffer.now, buffer.bytes, &length);
@@ -232,8 +251,10 @@ static void write_command(void)
     must(same(block));
     must(number == 0 ? length <= buffer.bytes : length == 0 && same(buffer));
     if (number == 0) {
-        uint32_t again[LG_COMMAND_WORDS];
-        must(lg_read_command(buffer.now, length, again, LG_COMMAND_WORDS) == 0 && memcmp(again, block.now, 16) == 0);
+        uint32_t again[LG_COMMAND_WORDS], *given = block.now;
+        must(lg_read_command(buffer.now, length, again, LG_COMMAND_WORDS) == 0 && memcmp(again, given, 16) == 0);
+        must(given[0] < 8 || again[19] == given[19]);
+        must(given[0] != 9 || (again[4] == given[4] && again[20] == given[20]));
     }
     give_back(block), give_back(buffer);
 }
@@ -263,11 +284,15 @@ static void read_packet(void)
     give_back(packet), give_back(block);
 }
 
-/* Another state block, of any length and content. */
+/* Another state block, of any length and content; its last word is 0. */
 static void other_state(void)
 {
+    struct lent first = words(near(LG_STATE_WORDS - 1));
     give_back(state);
-    state = words(near(LG_STATE_WORDS));
+    state = lend(first.bytes + 4);
+    memcpy(state.now, first.now, first.bytes);
+    ((uint32_t *)state.now)[first.bytes / 4] = 0;
+    give_back(first);
 }
 
 /* One word of the state block. */
@@ -288,14 +313,52 @@ static void other_image(void)
         ((uint32_t *)image.now)[i] = i < given ? word() : (uint32_t)i;
 }
 
+/* Another symbol table: up to seven records from the input as they are. Or up to 258 by rule, the names alike but for their last two bytes (or the
+ * only one), which are the record's number; values, or aliases of the record before, or of that of half the number; then a few bytes changed. */
+static void other_symbols(int right)
+{
+    give_back(symbols);
+    if (!right) {
+        symbols = bytes(near(LG_SYMBOL_BYTES * (byte() % 8)));
+        return;
+    }
+    size_t n = half() % 259, size = 1 + byte() % 48, aliases = byte() % 4;
+    uint32_t first = word(), changes = byte() % 8;
+    struct lent table = lend(LG_SYMBOL_BYTES * n);
+    memset(table.now, 0, table.bytes);
+    for (size_t i = 0; i < n; i++) {
+        uint8_t *p = (uint8_t *)table.now + LG_SYMBOL_BYTES * i;
+        int alias = i > 0 && (aliases == 1 || (aliases == 2 && i % 3 != 0));
+        uint32_t number = alias ? (uint32_t)(aliases == 1 ? i - 1 : i / 2) : first + 4 * (uint32_t)i;
+        p[0] = (uint8_t)alias, p[1] = (uint8_t)size;
+        memset(p + 4, 'a', size);
+        if (size > 1)
+            p[size + 2] = (uint8_t)(i >> 8);
+        p[size + 3] = (uint8_t)i;
+        p[52] = (uint8_t)(number >> 24), p[53] = (uint8_t)(number >> 16), p[54] = (uint8_t)(number >> 8), p[55] = (uint8_t)number;
+    }
+    while (changes-- > 0) {
+        size_t at = half(), value = byte();
+        if (at < table.bytes)
+            ((uint8_t *)table.now)[at] = (uint8_t)value;
+    }
+    symbols = lend(near(table.bytes));
+    memcpy(symbols.now, table.now, symbols.bytes < table.bytes ? symbols.bytes : table.bytes);
+    give_back(table);
+}
+
 int LLVMFuzzerTestOneInput(const uint8_t *data, size_t size)
 {
     in = data, left = size;
-    state = lend(4 * LG_STATE_WORDS), image = lend(0);
+    state = lend(4 * LG_STATE_WORDS), image = lend(0), symbols = lend(0);
     for (int steps = 0; left && steps < 64; steps++) {
         uint32_t step = byte();
-        if (step >= 231 && step <= 252) { /* two rounds of eleven */
+        if (step >= 242 && step <= 252) { /* a round of eleven */
             commands(step % 2 == 0);
+            continue;
+        }
+        if (step >= 231 && step <= 241) { /* a round of eleven */
+            other_symbols(step % 2 == 0);
             continue;
         }
         switch (step % 11) {
@@ -312,6 +375,6 @@ int LLVMFuzzerTestOneInput(const uint8_t *data, size_t size)
         case 10: other_image(); break;
         }
     }
-    give_back(state), give_back(image);
+    give_back(state), give_back(image), give_back(symbols);
     return 0;
 }

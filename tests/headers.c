@@ -1,7 +1,7 @@
-/* Packets for tests/dissector: commands from the writer, dump packets from the slot call, replies from pool statistics, alone and in a batch,
- * and the first two with damaged headers. Each goes to the capture file PCAP, and a line 'kind number bytes count' for each to standard
- * output. As written: 0, its bytes and the sequence count that was put in. Damaged: what our reader answers, its bytes and the sequence
- * count that our reader gives. */
+/* Packets for tests/dissector: commands from the writer, dump packets from the slot call, replies from pool statistics and from the value of a
+ * symbol, alone and in a batch, and the first two with damaged headers. Each goes to the capture file PCAP, and a line 'kind number bytes count'
+ * for each to standard output. As written: 0, its bytes and the sequence count that was put in. Damaged: what our reader answers, its bytes and
+ * the sequence count that our reader gives. */
 #include "../c/leatgarnet.h"
 #include <stdio.h>
 #include <stdlib.h>
@@ -81,11 +81,15 @@ static void check_again(uint8_t *packet, uint32_t bytes)
 }
 
 static uint32_t state[LG_STATE_WORDS], image[WORDS];
-static uint8_t packet[61], reply[32], telemetry[4093];
+static uint8_t packet[69], reply[32], telemetry[4093];
+
+/* One symbol, named "it": the region's start. */
+static const uint8_t symbols[LG_SYMBOL_BYTES] = { 0, 2, 0, 0, 'i', 't', [54] = START >> 8, [55] = START & 0xFF };
 
 static uint32_t command(uint32_t code, uint32_t size, uint32_t count)
 {
-    const uint32_t block[LG_COMMAND_WORDS] = { code, count, UNIT, below(4096), size, START, 0, 1, 2, 3, 4 };
+    const uint32_t named = (uint32_t)'i' << 24 | 't' << 16;
+    const uint32_t block[LG_COMMAND_WORDS] = { code, count, UNIT, below(4096), size, START, 0, code >= 8 ? named : 1, 2, 3, 4, [19] = 2 };
     uint32_t bytes;
     need(lg_write_command(block, LG_COMMAND_WORDS, packet, sizeof packet, &bytes) == 0, "a command is not written");
     return bytes;
@@ -94,14 +98,15 @@ static uint32_t command(uint32_t code, uint32_t size, uint32_t count)
 static uint32_t answer(uint32_t bytes)
 {
     uint32_t length;
-    need(lg_command(state, LG_STATE_WORDS, packet, bytes, image, WORDS, reply, sizeof reply, &length) == 0, "a command is refused");
+    need(lg_command(state, LG_STATE_WORDS, packet, bytes, symbols, sizeof symbols, image, WORDS, reply, sizeof reply, &length) == 0,
+         "a command is refused");
     return length;
 }
 
 static void commands(void)
 {
-    static const uint32_t codes[4] = { 0, 1, 4, 7 };
-    for (int i = 0; i < 4; i++) {
+    static const uint32_t codes[6] = { 0, 1, 4, 7, 8, 9 };
+    for (int i = 0; i < 6; i++) {
         uint32_t count = below(16384), bytes = command(codes[i], 1 + below(11), count);
         entry("command", 0, packet, bytes, count);
         bytes = damage(packet, bytes);
@@ -113,7 +118,7 @@ static void commands(void)
 static void dumps(void)
 {
     uint32_t length, count = state[76] = below(16384);
-    answer(command(0, 1 + below(WORDS), 0));
+    answer(command(below(2) ? 0 : 9, 1 + below(WORDS), 0));
     while (lg_slot(state, LG_STATE_WORDS, below(65536), image, WORDS, telemetry, sizeof telemetry, &length) == 0) {
         entry("dump", 0, telemetry, length, count);
         count = (count + 1) % 16384;
@@ -129,18 +134,26 @@ static void replies(void)
     entry("reply", 0, reply, 32, count);
 }
 
-/* Pool statistics in a batch of two, which share their bytes. */
-static void batch_replies(void)
+static void values(void)
+{
+    uint32_t count = state[79] = below(16384);
+    need(answer(command(8, 0, 0)) == 12, "a symbol's reply has not 12 bytes");
+    entry("value", 0, reply, 12, count);
+}
+
+/* Pool statistics or the value of a symbol in a batch of two, which share their bytes. */
+static void batch_replies(const char *kind, uint32_t code, uint32_t length, uint32_t *counts)
 {
     uint8_t both[64];
     struct lg_answer answers[2];
-    uint32_t count = state[75] = below(16384), bytes = command(7, 0, 0);
+    uint32_t count = *counts = below(16384), bytes = command(code, 0, 0);
     const uint32_t starts[2] = { 0, 0 }, lengths[2] = { bytes, bytes };
-    need(lg_commands(state, LG_STATE_WORDS, packet, bytes, starts, 2, lengths, 2, image, WORDS, both, sizeof both, answers, 2) == 0,
+    need(lg_commands(state, LG_STATE_WORDS, packet, bytes, starts, 2, lengths, 2, symbols, sizeof symbols, image, WORDS, both, sizeof both, answers,
+                     2) == 0,
          "a batch is refused");
     for (int i = 0; i < 2; i++) {
-        need(answers[i].number == 0 && answers[i].length == 32, "an item of a batch has no reply");
-        entry("reply", 0, both + 32 * i, 32, (count + (uint32_t)i) % 16384);
+        need(answers[i].number == 0 && answers[i].length == length, "an item of a batch has no reply");
+        entry(kind, 0, both + 32 * i, length, (count + (uint32_t)i) % 16384);
     }
 }
 
@@ -151,8 +164,10 @@ int main(int n, char **words)
     need(n == 2 && (pcap = fopen(words[1], "wb")), "give the capture file's name");
     put(magic, sizeof magic);
     need(lg_start_up(table, LG_TABLE_WORDS, state, LG_STATE_WORDS) == 0, "start-up is refused");
-    for (int i = 0; i < ROUNDS; i++)
-        commands(), dumps(), replies(), batch_replies();
+    for (int i = 0; i < ROUNDS; i++) {
+        commands(), dumps(), replies(), values();
+        batch_replies("reply", 7, 32, &state[75]), batch_replies("value", 8, 12, &state[79]);
+    }
     need(fclose(pcap) == 0, "the capture file cannot be written");
     return 0;
 }

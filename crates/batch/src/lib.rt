@@ -30,6 +30,7 @@ struct BatchAnswered {
 fn item(
     s: State,
     packet: &[u8],
+    symbols: &[u8],
     image: &mut [u32],
     replies: &mut [u8],
     numbers: &mut [u8],
@@ -38,15 +39,15 @@ fn item(
 ) -> State
     requires { ⌜ (32 * i + 32 ≤ length (now replies)) × (i < length (now numbers)) × (i < length (now sizes)) ⌝ }
     ensures { λ r. ⌜
-        (r ≡ onState s (record { packet = now (packet .entry); image = now (image .entry); reply = take 32 (drop (32 * i) (now (replies .entry))) }) .state)
-        × (now (image .exit) ≡ onState s (record { packet = now (packet .entry); image = now (image .entry); reply = take 32 (drop (32 * i) (now (replies .entry))) }) .image)
-        × (now (replies .exit) ≡ splice (now (replies .entry)) (32 * i) (onState s (record { packet = now (packet .entry); image = now (image .entry); reply = take 32 (drop (32 * i) (now (replies .entry))) }) .reply))
-        × (now (numbers .exit) ≡ set (now (numbers .entry)) i (onState s (record { packet = now (packet .entry); image = now (image .entry); reply = take 32 (drop (32 * i) (now (replies .entry))) }) .number))
-        × (now (sizes .exit) ≡ set (now (sizes .entry)) i (onState s (record { packet = now (packet .entry); image = now (image .entry); reply = take 32 (drop (32 * i) (now (replies .entry))) }) .length)) ⌝ }
+        (r ≡ onState s (record { packet = now (packet .entry); symbols = now (symbols .entry); image = now (image .entry); reply = take 32 (drop (32 * i) (now (replies .entry))) }) .state)
+        × (now (image .exit) ≡ onState s (record { packet = now (packet .entry); symbols = now (symbols .entry); image = now (image .entry); reply = take 32 (drop (32 * i) (now (replies .entry))) }) .image)
+        × (now (replies .exit) ≡ splice (now (replies .entry)) (32 * i) (onState s (record { packet = now (packet .entry); symbols = now (symbols .entry); image = now (image .entry); reply = take 32 (drop (32 * i) (now (replies .entry))) }) .reply))
+        × (now (numbers .exit) ≡ set (now (numbers .entry)) i (onState s (record { packet = now (packet .entry); symbols = now (symbols .entry); image = now (image .entry); reply = take 32 (drop (32 * i) (now (replies .entry))) }) .number))
+        × (now (sizes .exit) ≡ set (now (sizes .entry)) i (onState s (record { packet = now (packet .entry); symbols = now (symbols .entry); image = now (image .entry); reply = take 32 (drop (32 * i) (now (replies .entry))) }) .length)) ⌝ }
 {
     let from = 32 * i;
     let end = from + 32;
-    let r = command(s, packet, image, &mut replies[from..end]);
+    let r = command(s, packet, symbols, image, &mut replies[from..end]);
     let answer = r.answer;
     numbers[i] = (answer_number(answer) % 256) as u8;
     sizes[i] = (answer_length(answer) % 256) as u8;
@@ -59,6 +60,7 @@ fn run(
     bytes: &[u8],
     starts: &[u32],
     lengths: &[u32],
+    symbols: &[u8],
     image: &mut [u32],
     replies: &mut [u8],
     numbers: &mut [u8],
@@ -66,17 +68,17 @@ fn run(
 ) -> State
     requires { ⌜ unfitBy (length (now starts)) (length (now lengths)) (min (length (now numbers)) (length (now sizes))) (length (now replies)) ≡ false ⌝ }
     ensures { λ r. ⌜
-        (r ≡ leftBy onState (lends (now (bytes .entry)) (now (starts .entry)) (now (lengths .entry)) (now (image .entry)) (now (replies .entry))) s (length (now (starts .entry))) .state)
-        × (now (image .exit) ≡ leftBy onState (lends (now (bytes .entry)) (now (starts .entry)) (now (lengths .entry)) (now (image .entry)) (now (replies .entry))) s (length (now (starts .entry))) .image)
-        × (now (replies .exit) ≡ leftBy onState (lends (now (bytes .entry)) (now (starts .entry)) (now (lengths .entry)) (now (image .entry)) (now (replies .entry))) s (length (now (starts .entry))) .replies)
-        × (now (numbers .exit) ≡ filled (now (numbers .entry)) (numbersOf (leftBy onState (lends (now (bytes .entry)) (now (starts .entry)) (now (lengths .entry)) (now (image .entry)) (now (replies .entry))) s (length (now (starts .entry))) .answers)))
-        × (now (sizes .exit) ≡ filled (now (sizes .entry)) (lengthsOf (leftBy onState (lends (now (bytes .entry)) (now (starts .entry)) (now (lengths .entry)) (now (image .entry)) (now (replies .entry))) s (length (now (starts .entry))) .answers))) ⌝ }
+        (r ≡ leftBy onState (lends (now (bytes .entry)) (now (starts .entry)) (now (lengths .entry)) (now (symbols .entry)) (now (image .entry)) (now (replies .entry))) s (length (now (starts .entry))) .state)
+        × (now (image .exit) ≡ leftBy onState (lends (now (bytes .entry)) (now (starts .entry)) (now (lengths .entry)) (now (symbols .entry)) (now (image .entry)) (now (replies .entry))) s (length (now (starts .entry))) .image)
+        × (now (replies .exit) ≡ leftBy onState (lends (now (bytes .entry)) (now (starts .entry)) (now (lengths .entry)) (now (symbols .entry)) (now (image .entry)) (now (replies .entry))) s (length (now (starts .entry))) .replies)
+        × (now (numbers .exit) ≡ filled (now (numbers .entry)) (numbersOf (leftBy onState (lends (now (bytes .entry)) (now (starts .entry)) (now (lengths .entry)) (now (symbols .entry)) (now (image .entry)) (now (replies .entry))) s (length (now (starts .entry))) .answers)))
+        × (now (sizes .exit) ≡ filled (now (sizes .entry)) (lengthsOf (leftBy onState (lends (now (bytes .entry)) (now (starts .entry)) (now (lengths .entry)) (now (symbols .entry)) (now (image .entry)) (now (replies .entry))) s (length (now (starts .entry))) .answers))) ⌝ }
 {
     let mut state = s;
     let mut i: usize = 0;
     while i < starts.len() {
         let packet = bytes_from(bytes, starts[i], lengths[i]);
-        state = item(state, packet, image, replies, numbers, sizes, i);
+        state = item(state, packet, symbols, image, replies, numbers, sizes, i);
         i += 1;
     }
     state
@@ -88,23 +90,34 @@ pub fn batch_numbers(
     bytes: &[u8],
     starts: &[u32],
     lengths: &[u32],
+    symbols: &[u8],
     image: &mut [u32],
     replies: &mut [u8],
     numbers: &mut [u8],
     sizes: &mut [u8],
 ) -> BatchReturned
     ensures { λ r. ⌜
-        (r .verdict ≡ batch onState s (lends (now (bytes .entry)) (now (starts .entry)) (now (lengths .entry)) (now (image .entry)) (now (replies .entry))) (min (length (now (numbers .entry))) (length (now (sizes .entry)))) .verdict)
-        × LeftAs (batch onState s (lends (now (bytes .entry)) (now (starts .entry)) (now (lengths .entry)) (now (image .entry)) (now (replies .entry))) (min (length (now (numbers .entry))) (length (now (sizes .entry))))) (r .state) (now (image .exit)) (now (replies .exit))
-        × (now (numbers .exit) ≡ filled (now (numbers .entry)) (numbersOf (batch onState s (lends (now (bytes .entry)) (now (starts .entry)) (now (lengths .entry)) (now (image .entry)) (now (replies .entry))) (min (length (now (numbers .entry))) (length (now (sizes .entry)))) .left .answers)))
-        × (now (sizes .exit) ≡ filled (now (sizes .entry)) (lengthsOf (batch onState s (lends (now (bytes .entry)) (now (starts .entry)) (now (lengths .entry)) (now (image .entry)) (now (replies .entry))) (min (length (now (numbers .entry))) (length (now (sizes .entry)))) .left .answers))) ⌝ }
+        (r .verdict ≡ batch onState s (lends (now (bytes .entry)) (now (starts .entry)) (now (lengths .entry)) (now (symbols .entry)) (now (image .entry)) (now (replies .entry))) (min (length (now (numbers .entry))) (length (now (sizes .entry)))) .verdict)
+        × LeftAs (batch onState s (lends (now (bytes .entry)) (now (starts .entry)) (now (lengths .entry)) (now (symbols .entry)) (now (image .entry)) (now (replies .entry))) (min (length (now (numbers .entry))) (length (now (sizes .entry))))) (r .state) (now (image .exit)) (now (replies .exit))
+        × (now (numbers .exit) ≡ filled (now (numbers .entry)) (numbersOf (batch onState s (lends (now (bytes .entry)) (now (starts .entry)) (now (lengths .entry)) (now (symbols .entry)) (now (image .entry)) (now (replies .entry))) (min (length (now (numbers .entry))) (length (now (sizes .entry)))) .left .answers)))
+        × (now (sizes .exit) ≡ filled (now (sizes .entry)) (lengthsOf (batch onState s (lends (now (bytes .entry)) (now (starts .entry)) (now (lengths .entry)) (now (symbols .entry)) (now (image .entry)) (now (replies .entry))) (min (length (now (numbers .entry))) (length (now (sizes .entry)))) .left .answers))) ⌝ }
 {
     let records = lesser(numbers.len(), sizes.len());
     let verdict = batch_verdict(starts.len(), lengths.len(), records, replies.len());
     match verdict {
         Verdict::Rejected(_) => BatchReturned { verdict, state: s },
         Verdict::Accepted => {
-            let state = run(s, bytes, starts, lengths, image, replies, numbers, sizes);
+            let state = run(
+                s,
+                bytes,
+                starts,
+                lengths,
+                symbols,
+                image,
+                replies,
+                numbers,
+                sizes,
+            );
             BatchReturned { verdict, state }
         }
     }
@@ -116,14 +129,15 @@ fn answered(
     bytes: &[u8],
     starts: &[u32],
     lengths: &[u32],
+    symbols: &[u8],
     image: &mut [u32],
     replies: &mut [u8],
     records: usize,
 ) -> BatchAnswered
     ensures { λ r. ⌜
-        (r .returned .verdict ≡ batch onState s (lends (now (bytes .entry)) (now (starts .entry)) (now (lengths .entry)) (now (image .entry)) (now (replies .entry))) records .verdict)
-        × Answers (r .answers) records (batch onState s (lends (now (bytes .entry)) (now (starts .entry)) (now (lengths .entry)) (now (image .entry)) (now (replies .entry))) records .left .answers)
-        × LeftAs (batch onState s (lends (now (bytes .entry)) (now (starts .entry)) (now (lengths .entry)) (now (image .entry)) (now (replies .entry))) records) (r .returned .state) (now (image .exit)) (now (replies .exit)) ⌝ }
+        (r .returned .verdict ≡ batch onState s (lends (now (bytes .entry)) (now (starts .entry)) (now (lengths .entry)) (now (symbols .entry)) (now (image .entry)) (now (replies .entry))) records .verdict)
+        × Answers (r .answers) records (batch onState s (lends (now (bytes .entry)) (now (starts .entry)) (now (lengths .entry)) (now (symbols .entry)) (now (image .entry)) (now (replies .entry))) records .left .answers)
+        × LeftAs (batch onState s (lends (now (bytes .entry)) (now (starts .entry)) (now (lengths .entry)) (now (symbols .entry)) (now (image .entry)) (now (replies .entry))) records) (r .returned .state) (now (image .exit)) (now (replies .exit)) ⌝ }
 {
     let mut numbers: [u8; 64] = [0; 64];
     let mut sizes: [u8; 64] = [0; 64];
@@ -133,6 +147,7 @@ fn answered(
         bytes,
         starts,
         lengths,
+        symbols,
         image,
         replies,
         &mut numbers[..room],
@@ -168,16 +183,26 @@ pub fn batch(
     bytes: &[u8],
     starts: &[u32],
     lengths: &[u32],
+    symbols: &[u8],
     image: &mut [u32],
     replies: &mut [u8],
     answers: &mut [ItemAnswer],
 ) -> BatchReturned
     ensures { λ r. ⌜
-        (r .verdict ≡ batch onState s (lends (now (bytes .entry)) (now (starts .entry)) (now (lengths .entry)) (now (image .entry)) (now (replies .entry))) (length (now (answers .entry))) .verdict)
-        × LeftAs (batch onState s (lends (now (bytes .entry)) (now (starts .entry)) (now (lengths .entry)) (now (image .entry)) (now (replies .entry))) (length (now (answers .entry)))) (r .state) (now (image .exit)) (now (replies .exit))
-        × (now (answers .exit) ≡ filled (now (answers .entry)) (batch onState s (lends (now (bytes .entry)) (now (starts .entry)) (now (lengths .entry)) (now (image .entry)) (now (replies .entry))) (length (now (answers .entry))) .left .answers)) ⌝ }
+        (r .verdict ≡ batch onState s (lends (now (bytes .entry)) (now (starts .entry)) (now (lengths .entry)) (now (symbols .entry)) (now (image .entry)) (now (replies .entry))) (length (now (answers .entry))) .verdict)
+        × LeftAs (batch onState s (lends (now (bytes .entry)) (now (starts .entry)) (now (lengths .entry)) (now (symbols .entry)) (now (image .entry)) (now (replies .entry))) (length (now (answers .entry)))) (r .state) (now (image .exit)) (now (replies .exit))
+        × (now (answers .exit) ≡ filled (now (answers .entry)) (batch onState s (lends (now (bytes .entry)) (now (starts .entry)) (now (lengths .entry)) (now (symbols .entry)) (now (image .entry)) (now (replies .entry))) (length (now (answers .entry))) .left .answers)) ⌝ }
 {
-    let r = answered(s, bytes, starts, lengths, image, replies, answers.len());
+    let r = answered(
+        s,
+        bytes,
+        starts,
+        lengths,
+        symbols,
+        image,
+        replies,
+        answers.len(),
+    );
     put_records(answers, answers_of(r));
     returned_of(r)
 }

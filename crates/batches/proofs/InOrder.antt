@@ -62,23 +62,24 @@ before rest l = record { state = l .state; image = l .image; replies = l .replie
 module _ {S : Type 0} (call : S → CommandArgs → Single S) where
   -- WHAT THE SINGLE CALLS LEAVE, without the reply buffer past the items
 
-  abbrev runs : S → List ℕ → List Item → Left S
-  runs s image xs =
-      record {
-        state = lastState s (made call s image xs);
-        image = lastImage image (made call s image xs);
-        replies = repliesOf (made call s image xs);
-        answers = recordsOf (made call s image xs);
-      }
+  module _ (symbols : List ℕ) where
+    abbrev runs : S → List ℕ → List Item → Left S
+    runs s image xs =
+        record {
+          state = lastState s (made call symbols s image xs);
+          image = lastImage image (made call symbols s image xs);
+          replies = repliesOf (made call symbols s image xs);
+          answers = recordsOf (made call symbols s image xs);
+        }
 
-  runs-append : (s : S) (image : List ℕ) (xs ys : List Item)
-      → runs s image (xs ++ ys) ≡ then (runs s image xs) (runs (runs s image xs .state) (runs s image xs .image) ys)
-  runs-append s image [] ys = refl
-  runs-append s image (x ∷ xs) ys =
-      let g = makes call s image x .gave in
-      ap (then (record { state = g .state; image = g .image; replies = g .reply; answers = recordsOf (makes call s image x ∷ []) }))
-      (runs-append (g .state) (g .image) xs ys)
-      ∙ rw append-assoc
+    runs-append : (s : S) (image : List ℕ) (xs ys : List Item)
+        → runs s image (xs ++ ys) ≡ then (runs s image xs) (runs (runs s image xs .state) (runs s image xs .image) ys)
+    runs-append s image [] ys = refl
+    runs-append s image (x ∷ xs) ys =
+        let g = makes call symbols s image x .gave in
+        ap (then (record { state = g .state; image = g .image; replies = g .reply; answers = recordsOf (makes call symbols s image x ∷ []) }))
+        (runs-append (g .state) (g .image) xs ys)
+        ∙ rw append-assoc
 
   module _ (keeps : (s : S) (c : CommandArgs) → length (call s c .reply) ≡ length (c .reply)) where
     -- ITEM K, after items that left l and the bytes `rest` of the reply buffer
@@ -87,10 +88,10 @@ module _ {S : Type 0} (call : S → CommandArgs → Single S) where
       item = record { packet = packetOf a k; reply = take 32 rest }
 
       abbrev gave : List ℕ → Single S
-      gave lent = call (l .state) (record { packet = packetOf a k; image = l .image; reply = lent })
+      gave lent = call (l .state) (record { packet = packetOf a k; symbols = a .symbols; image = l .image; reply = lent })
 
       abbrev more : Left S
-      more = then l (runs (l .state) (l .image) (item ∷ []))
+      more = then l (runs (a .symbols) (l .state) (l .image) (item ∷ []))
 
       module _ (size : length (l .replies) ≡ 32 * k) (room : 32 ≤ length rest) where
         reply-size : length (gave (take 32 rest) .reply) ≡ 32
@@ -114,8 +115,8 @@ module _ {S : Type 0} (call : S → CommandArgs → Single S) where
 
     -- ALL ITEMS: k of them leave what the first k single calls leave, with the reply buffer past them
     record Upto (s : S) (a : BatchArgs) (k : ℕ) : Type 0 where
-      is : leftBy call a s k ≡ before (drop (32 * k) (a .replies)) (runs s (a .image) (take k (items a)))
-      size : length (runs s (a .image) (take k (items a)) .replies) ≡ 32 * k
+      is : leftBy call a s k ≡ before (drop (32 * k) (a .replies)) (runs (a .symbols) s (a .image) (take k (items a)))
+      size : length (runs (a .symbols) s (a .image) (take k (items a)) .replies) ≡ 32 * k
 
     module _ (s : S) (a : BatchArgs) (records : ℕ) (fit : Fits a records) where
       all-items : length (items a) ≡ itemsOf a
@@ -126,14 +127,14 @@ module _ {S : Type 0} (call : S → CommandArgs → Single S) where
       upto zero h = record { is = refl; size = refl }
       upto (suc k) h =
           let u : Upto s a k = upto k (omega arith) in
-          let l : Left S = runs s (a .image) (take k (items a)) in
+          let l : Left S = runs (a .symbols) s (a .image) (take k (items a)) in
           let rest : List ℕ = drop (32 * k) (a .replies) in
           let room : 32 ≤ length rest = simp length-drop (omega (arith, fit .bytes)) in
           let short : k < length (items a) = rw all-items h in
           let next : 32 * k + 32 ≡ 32 * suc k = omega arith in
           let taken : take (suc k) (items a) ≡ take k (items a) ++ (item a l k rest ∷ []) =
           rw (take-suc (items a) k noItem short, item-at (a .bytes) (a .starts) (a .lengths) (a .replies) k (fit .equal) h) in
-          let split : runs s (a .image) (take (suc k) (items a)) ≡ more a l k rest = rw taken (runs-append s (a .image) (take k (items a)) _) in
+          let split : runs (a .symbols) s (a .image) (take (suc k) (items a)) ≡ more a l k rest = rw taken (runs-append (a .symbols) s (a .image) (take k (items a)) _) in
           record {
             is =
                 ap (λ (m : Left S). withItem call a m k) (u .is)
@@ -143,71 +144,71 @@ module _ {S : Type 0} (call : S → CommandArgs → Single S) where
             size = ap (λ (m : Left S). length (m .replies)) split ∙ more-size a l k rest (u .size) room;
           }
 
-      all-of : leftBy call a s (itemsOf a) ≡ leftOf s a (made call s (a .image) (items a))
+      all-of : leftBy call a s (itemsOf a) ≡ leftOf s a (made call (a .symbols) s (a .image) (items a))
       all-of =
           upto (itemsOf a) (omega arith) .is
-          ∙ ap (λ (xs : List Item). before (drop (32 * itemsOf a) (a .replies)) (runs s (a .image) xs)) (take-all (itemsOf a) (items a) (omega (arith, all-items)))
+          ∙ ap (λ (xs : List Item). before (drop (32 * itemsOf a) (a .replies)) (runs (a .symbols) s (a .image) xs)) (take-all (itemsOf a) (items a) (omega (arith, all-items)))
 
-      in-order-of : batch call s a records ≡ record { verdict = Accepted; left = leftOf s a (made call s (a .image) (items a)) }
+      in-order-of : batch call s a records ≡ record { verdict = Accepted; left = leftOf s a (made call (a .symbols) s (a .image) (items a)) }
       unfolding batch
       in-order-of = rw (fits-in a records fit) (ap (λ (l : Left S). record { verdict = Accepted; left = l }) all-of)
 
     -- ITEMS XS THEN YS
-    module _ (s : S) (bytes xs lxs ys lys image replies : List ℕ) (records : ℕ)
+    module _ (s : S) (bytes xs lxs ys lys symbols image replies : List ℕ) (records : ℕ)
         (ex : length lxs ≡ length xs) (ey : length lys ≡ length ys) (few : length xs + length ys ≤ 64)
         (room : length xs + length ys ≤ records) (long : 32 * (length xs + length ys) ≤ length replies) where
       abbrev at : ℕ
       at = 32 * length xs
 
       abbrev front : Left S
-      front = runs s image (itemsAlong bytes xs lxs (take at replies))
+      front = runs symbols s image (itemsAlong bytes xs lxs (take at replies))
 
       abbrev back : Left S
-      back = runs (front .state) (front .image) (itemsAlong bytes ys lys (drop at replies))
+      back = runs symbols (front .state) (front .image) (itemsAlong bytes ys lys (drop at replies))
 
       front-long : length (take at replies) ≡ at
       front-long = length-take-le at replies (omega arith)
 
-      both-runs : runs s image (itemsAlong bytes (xs ++ ys) (lxs ++ lys) replies) ≡ then front back
+      both-runs : runs symbols s image (itemsAlong bytes (xs ++ ys) (lxs ++ lys) replies) ≡ then front back
       both-runs =
-          ap (λ (r : List ℕ). runs s image (itemsAlong bytes (xs ++ ys) (lxs ++ lys) r)) (sym (take-append-drop at replies))
-          ∙ ap (runs s image) (items-append bytes xs lxs ys lys (take at replies) (drop at replies) ex front-long)
-          ∙ runs-append s image (itemsAlong bytes xs lxs (take at replies)) (itemsAlong bytes ys lys (drop at replies))
+          ap (λ (r : List ℕ). runs symbols s image (itemsAlong bytes (xs ++ ys) (lxs ++ lys) r)) (sym (take-append-drop at replies))
+          ∙ ap (runs symbols s image) (items-append bytes xs lxs ys lys (take at replies) (drop at replies) ex front-long)
+          ∙ runs-append symbols s image (itemsAlong bytes xs lxs (take at replies)) (itemsAlong bytes ys lys (drop at replies))
 
-      first-left : batch call s (lends bytes xs lxs image (take at replies)) (length xs) .left ≡ before [] front
+      first-left : batch call s (lends bytes xs lxs symbols image (take at replies)) (length xs) .left ≡ before [] front
       first-left =
           ap (λ (b : Batch S). b .left)
-          (in-order-of s (lends bytes xs lxs image (take at replies)) (length xs)
+          (in-order-of s (lends bytes xs lxs symbols image (take at replies)) (length xs)
           (record { few = omega arith; equal = ex; room = omega arith; bytes = omega (arith, front-long) }))
           ∙ ap (λ (r : List ℕ). before r front) (slice-empty at replies)
 
-      second-left : batch call (front .state) (lends bytes ys lys (front .image) (drop at replies)) (records - length xs) .left
+      second-left : batch call (front .state) (lends bytes ys lys symbols (front .image) (drop at replies)) (records - length xs) .left
           ≡ before (drop (32 * length ys) (drop at replies)) back
       second-left =
           ap (λ (b : Batch S). b .left)
-          (in-order-of (front .state) (lends bytes ys lys (front .image) (drop at replies)) (records - length xs)
+          (in-order-of (front .state) (lends bytes ys lys symbols (front .image) (drop at replies)) (records - length xs)
           (record { few = omega arith; equal = ey; room = omega arith; bytes = simp length-drop (omega arith) }))
 
-      both-left : batch call s (lends bytes (xs ++ ys) (lxs ++ lys) image replies) records
+      both-left : batch call s (lends bytes (xs ++ ys) (lxs ++ lys) symbols image replies) records
           ≡ record { verdict = Accepted; left = then (before [] front) (before (drop (32 * length ys) (drop at replies)) back) }
       both-left =
           let n : length (xs ++ ys) ≡ length xs + length ys = length-append xs ys in
           let m : length (lxs ++ lys) ≡ length lxs + length lys = length-append lxs lys in
           let end : at + 32 * length ys ≡ 32 * length (xs ++ ys) = omega arith in
-          in-order-of s (lends bytes (xs ++ ys) (lxs ++ lys) image replies) records
+          in-order-of s (lends bytes (xs ++ ys) (lxs ++ lys) symbols image replies) records
           (record { few = omega arith; equal = omega arith; room = omega arith; bytes = omega arith })
           ∙ ap (λ (l : Left S). record { verdict = Accepted; left = before (drop (32 * length (xs ++ ys)) replies) l }) both-runs
           ∙ rw (append-nil, drop-drop, end, append-assoc)
 
       one-after-the-other : (first second : Left S)
-          → first ≡ batch call s (lends bytes xs lxs image (take at replies)) (length xs) .left
-          → second ≡ batch call (first .state) (lends bytes ys lys (first .image) (drop at replies)) (records - length xs) .left
-          → batch call s (lends bytes (xs ++ ys) (lxs ++ lys) image replies) records ≡ record { verdict = Accepted; left = then first second }
+          → first ≡ batch call s (lends bytes xs lxs symbols image (take at replies)) (length xs) .left
+          → second ≡ batch call (first .state) (lends bytes ys lys symbols (first .image) (drop at replies)) (records - length xs) .left
+          → batch call s (lends bytes (xs ++ ys) (lxs ++ lys) symbols image replies) records ≡ record { verdict = Accepted; left = then first second }
       one-after-the-other first second p q =
           let f : first ≡ before [] front = p ∙ first-left in
           let g : second ≡ before (drop (32 * length ys) (drop at replies)) back =
           q
-          ∙ ap (λ (l : Left S). batch call (l .state) (lends bytes ys lys (l .image) (drop at replies)) (records - length xs) .left) f
+          ∙ ap (λ (l : Left S). batch call (l .state) (lends bytes ys lys symbols (l .image) (drop at replies)) (records - length xs) .left) f
           ∙ second-left in
           rw (f, g) both-left
 
@@ -221,13 +222,13 @@ module _ {S : Type 0} (call : S → CommandArgs → Single S) where
         record {
           equals = λ s a records h. in-order-of s a records (fits-out a records h);
           refused = nothing-done;
-          none = λ s bytes image replies records.
-              in-order-of s (lends bytes [] [] image replies) records
+          none = λ s bytes symbols image replies records.
+              in-order-of s (lends bytes [] [] symbols image replies) records
               (record { few = omega arith; equal = refl; room = omega arith; bytes = omega arith });
-          one = λ s bytes start n image replies records h k.
-              in-order-of s (lends bytes (start ∷ []) (n ∷ []) image replies) records
+          one = λ s bytes start n symbols image replies records h k.
+              in-order-of s (lends bytes (start ∷ []) (n ∷ []) symbols image replies) records
               (record { few = omega arith; equal = refl; room = h; bytes = k })
-              ∙ (let c : Single S = call s (record { packet = bytesFrom bytes start n; image = image; reply = take 32 replies }) in
+              ∙ (let c : Single S = call s (record { packet = bytesFrom bytes start n; symbols = symbols; image = image; reply = take 32 replies }) in
               ap
               (λ (r : List ℕ).
               record {
@@ -247,14 +248,14 @@ module _ {S : Type 0} (call : S → CommandArgs → Single S) where
 -- A CALL THAT ANSWERS 1 and leaves all as it was: so does each item
 module _ {S : Type 0} (call : S → CommandArgs → Single S) (s : S) (keeps : (s : S) (c : CommandArgs) → length (call s c .reply) ≡ length (c .reply))
     (bad : (c : CommandArgs) → call s c ≡ record { number = 1; length = 0; state = s; image = c .image; reply = c .reply }) where
-  bad-runs : (image bytes ss ns replies : List ℕ) → length ns ≡ length ss
-      → runs call s image (itemsAlong bytes ss ns replies)
+  bad-runs : (symbols image bytes ss ns replies : List ℕ) → length ns ≡ length ss
+      → runs call symbols s image (itemsAlong bytes ss ns replies)
       ≡ record { state = s; image = image; replies = take (32 * length ss) replies; answers = replicate (length ss) (record { number = 1; length = 0 }) }
-  bad-runs image bytes [] ns replies e = refl
-  bad-runs image bytes (x ∷ ss) [] replies e = absurd (omega arith)
-  bad-runs image bytes (x ∷ ss) (n ∷ ns) replies e =
+  bad-runs symbols image bytes [] ns replies e = refl
+  bad-runs symbols image bytes (x ∷ ss) [] replies e = absurd (omega arith)
+  bad-runs symbols image bytes (x ∷ ss) (n ∷ ns) replies e =
       let next : 32 * suc (length ss) ≡ 32 + 32 * length ss = omega arith in
-      rw (bad (record { packet = bytesFrom bytes x n; image = image; reply = take 32 replies }), next, take-add 32 (32 * length ss) replies)
+      rw (bad (record { packet = bytesFrom bytes x n; symbols = symbols; image = image; reply = take 32 replies }), next, take-add 32 (32 * length ss) replies)
       (ap
       (λ (l : Left S).
       record {
@@ -263,7 +264,7 @@ module _ {S : Type 0} (call : S → CommandArgs → Single S) (s : S) (keeps : (
         replies = take 32 replies ++ l .replies;
         answers = record { number = 1; length = 0 } ∷ l .answers;
       })
-      (bad-runs image bytes ss ns (drop 32 replies) (omega arith)))
+      (bad-runs symbols image bytes ss ns (drop 32 replies) (omega arith)))
 
   pub all-refused : (a : BatchArgs) (records : ℕ) → unfit a records ≡ false
       → batch call s a records
@@ -285,5 +286,5 @@ module _ {S : Type 0} (call : S → CommandArgs → Single S) (s : S) (keeps : (
         verdict = Accepted;
         left = record { state = l .state; image = l .image; replies = l .replies ++ drop (32 * itemsOf a) (a .replies); answers = l .answers };
       })
-      (bad-runs (a .image) (a .bytes) (a .starts) (a .lengths) (a .replies) (fits-out a records h .equal))
+      (bad-runs (a .symbols) (a .image) (a .bytes) (a .starts) (a .lengths) (a .replies) (fits-out a records h .equal))
       ∙ rw take-append-drop

@@ -18,10 +18,10 @@ pub record Within {S : Type 0} (c : CommandArgs) (o : Single S) : Type 0 where
   pub number-low : o .number < 256
   pub length-low : o .length < 256
 
-module _ {S : Type 0} (call : S → CommandArgs → Single S) (s : S) (packet image replies : List ℕ) (i : ℕ) where
+module _ {S : Type 0} (call : S → CommandArgs → Single S) (s : S) (packet symbols image replies : List ℕ) (i : ℕ) where
   -- n bytes of the reply buffer
   abbrev lent : ℕ → CommandArgs
-  lent n = record { packet = packet; image = image; reply = take n (drop (32 * i) replies) }
+  lent n = record { packet = packet; symbols = symbols; image = image; reply = take n (drop (32 * i) replies) }
 
   abbrev Called : ℕ → S → (image part : List ℕ) (number size : ℕ) → Type 0
   Called n state image part number size =

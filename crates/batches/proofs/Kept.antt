@@ -4,16 +4,14 @@ use mathlib.Core.Path.{_≡_, refl}
 use Prim.Native.Nat.{ℕ, _<_}
 use lib.Dec.{lit<}
 use Rattle.lists.proofs.Tests.{either}
-use Rattle.rules.specs.Commands.{CommandArgs, Outcome, commandRows, refusedCommand, poolWords, replied, carryOut, conclude, commandCall}
-use Rattle.rules.specs.Packets.{decode}
+use Rattle.rules.specs.Commands.{CommandArgs, Outcome, task, commandRows, refusedCommand, poolWords, replied, carryOut, conclude, commandCall}
 use Rattle.rules.specs.Pools.{Walk, damaged, whole, blocksOf}
 use Rattle.rules.specs.Results.{number, counted, answerNumber, answerLength, lowest}
-use Rattle.rules.specs.declared.Command.the-variants.{Dump, Cancel, Load, PoolStatistics}
-use Rattle.rules.specs.declared.Decoded.{Decoded}
-use Rattle.rules.specs.declared.Decoded.the-variants.{Unknown, Known}
 use Rattle.rules.specs.declared.Refusal.{Refusal}
-use Rattle.rules.specs.declared.Refusal.the-variants.{BadState, ImageLength, BufferLength, Malformed, OtherApid, UnknownCode, PacketLength, OtherUnit, BadField, OutsideRegions, NoRight, TransactionBusy, PlacesBusy, NotBusy, PoolDamaged, NothingToSend, BadTable}
+use Rattle.rules.specs.declared.Refusal.the-variants.{BadState, ImageLength, BufferLength, Malformed, OtherApid, UnknownCode, PacketLength, OtherUnit, BadField, OutsideRegions, NoRight, TransactionBusy, PlacesBusy, NotBusy, PoolDamaged, NothingToSend, BadTable, UnknownSymbol}
 use Rattle.rules.specs.declared.State.{State}
+use Rattle.rules.specs.declared.Task.{Task}
+use Rattle.rules.specs.declared.Task.the-variants.{Nothing, DumpRange, CancelDump, LoadRange, CountPool, TellValue}
 use Rattle.rules.specs.declared.Verdict.{Verdict}
 use Rattle.rules.specs.declared.Verdict.the-variants.{Accepted, Rejected}
 
@@ -42,6 +40,7 @@ refusal-small NotBusy = lit< tt
 refusal-small PoolDamaged = lit< tt
 refusal-small NothingToSend = lit< tt
 refusal-small BadTable = lit< tt
+refusal-small UnknownSymbol = lit< tt
 
 module _ (s : State) (c : CommandArgs) where
   refused-kept : (r : Refusal) → Kept s (refusedCommand s c r)
@@ -55,16 +54,17 @@ module _ (s : State) (c : CommandArgs) where
   replied-kept i damaged = refused-kept PoolDamaged
   replied-kept i (whole bs) = record { regions = refl; count = refl; pools = refl; number = lit< tt; length = lit< tt }
 
-  carried-kept : (k : Decoded) → Kept s (carryOut s c k)
-  carried-kept Unknown = refused-kept UnknownCode
-  carried-kept (Known (Dump q)) = record { regions = refl; count = refl; pools = refl; number = lit< tt; length = lit< tt }
-  carried-kept (Known Cancel) = record { regions = refl; count = refl; pools = refl; number = lit< tt; length = lit< tt }
-  carried-kept (Known (Load q)) = record { regions = refl; count = refl; pools = refl; number = lit< tt; length = lit< tt }
-  carried-kept (Known (PoolStatistics i)) = replied-kept i (blocksOf (poolWords s i (c .image)))
+  carried-kept : (k : Task) → Kept s (carryOut s c k)
+  carried-kept Nothing = refused-kept UnknownCode
+  carried-kept (DumpRange r) = record { regions = refl; count = refl; pools = refl; number = lit< tt; length = lit< tt }
+  carried-kept CancelDump = record { regions = refl; count = refl; pools = refl; number = lit< tt; length = lit< tt }
+  carried-kept (LoadRange r) = record { regions = refl; count = refl; pools = refl; number = lit< tt; length = lit< tt }
+  carried-kept (CountPool i) = replied-kept i (blocksOf (poolWords s i (c .image)))
+  carried-kept (TellValue v) = record { regions = refl; count = refl; pools = refl; number = lit< tt; length = lit< tt }
 
   concluded-kept : (v : Verdict) → Kept s (conclude s c v)
   concluded-kept (Rejected r) = refused-kept r
-  concluded-kept Accepted = carried-kept (decode (c .packet))
+  concluded-kept Accepted = carried-kept (task c)
 
   pub command-kept : Kept s (commandCall s c)
   unfolding commandCall

@@ -49,15 +49,15 @@ with-call s c es b t =
     record { calls = c ∷ t .calls; bytes = b (t .calls) (t .bytes); are = ap (λ (l : List Event). event s c ∷ l) (t .are) }
 
 -- the items of a batch, and what follows them
-with-items : (s : State) (image bytes ss ns replies : List ℕ) (es : List Event) → AreBytes bytes
-    → Told (lastState s (made onState s image (itemsAlong bytes ss ns replies))) es
-    → Told s (itemEvents (made onState s image (itemsAlong bytes ss ns replies)) ++ es)
-with-items s image bytes [] ns replies es b t = t
-with-items s image bytes (x ∷ ss) [] replies es b t = t
-with-items s image bytes (x ∷ ss) (n ∷ ns) replies es b t =
-    let c : CommandArgs = record { packet = bytesFrom bytes x n; image = image; reply = take 32 replies } in
+with-items : (s : State) (symbols image bytes ss ns replies : List ℕ) (es : List Event) → AreBytes bytes
+    → Told (lastState s (made onState symbols s image (itemsAlong bytes ss ns replies))) es
+    → Told s (itemEvents (made onState symbols s image (itemsAlong bytes ss ns replies)) ++ es)
+with-items s symbols image bytes [] ns replies es b t = t
+with-items s symbols image bytes (x ∷ ss) [] replies es b t = t
+with-items s symbols image bytes (x ∷ ss) (n ∷ ns) replies es b t =
+    let c : CommandArgs = record { packet = bytesFrom bytes x n; symbols = symbols; image = image; reply = take 32 replies } in
     with-call s (command c) _ (λ cs l. (packet-bytes bytes x n b, l))
-    (with-items (step s (command c) .state) (step s (command c) .image) bytes ss ns (drop 32 replies) es b t)
+    (with-items (step s (command c) .state) symbols (step s (command c) .image) bytes ss ns (drop 32 replies) es b t)
 
 with-step : (s : State) (x : Step) (es : List Event) → StepBytes x → Told (returnedBy s x) es → Told s (eventsOf s x ++ es)
 with-step s (one (command c)) es b t = with-call s (command c) es (λ cs l. (b, l)) t
@@ -66,7 +66,7 @@ with-step s (many a records) es b t =
     let left : (o : Batch State) → batch onState s a records ≡ o → Told (o .left .state) es = λ o e. subst (λ (p : Batch State). Told (p .left .state) es) e t in
     either (unfit a records)
     (λ e. rw e (left _ (command-in-order .refused s a records e)))
-    (λ e. rw e (with-items s (a .image) (a .bytes) (a .starts) (a .lengths) (a .replies) es b (left _ (command-in-order .equals s a records e))))
+    (λ e. rw e (with-items s (a .symbols) (a .image) (a .bytes) (a .starts) (a .lengths) (a .replies) es b (left _ (command-in-order .equals s a records e))))
 
 along : (s : State) (xs : List Step) → StepsLendBytes xs → Told s (eventsAlong s xs)
 along s [] bs = record { calls = []; bytes = tt; are = refl }
@@ -79,13 +79,13 @@ demand-3-with-batches rs n pools unit h xs bs =
 
 -- A GOOD STATE STAYS GOOD
 
-good-along : (s : State) (image bytes ss ns replies : List ℕ) → AreBytes bytes → goodState s ≡ true
-    → goodState (lastState s (made onState s image (itemsAlong bytes ss ns replies))) ≡ true
-good-along s image bytes [] ns replies b g = g
-good-along s image bytes (x ∷ ss) [] replies b g = g
-good-along s image bytes (x ∷ ss) (n ∷ ns) replies b g =
-    let c : CommandArgs = record { packet = bytesFrom bytes x n; image = image; reply = take 32 replies } in
-    good-along (commandCall s c .state) (commandCall s c .image) bytes ss ns (drop 32 replies) b (demand-2 .command-good s c (packet-bytes bytes x n b) g)
+good-along : (s : State) (symbols image bytes ss ns replies : List ℕ) → AreBytes bytes → goodState s ≡ true
+    → goodState (lastState s (made onState symbols s image (itemsAlong bytes ss ns replies))) ≡ true
+good-along s symbols image bytes [] ns replies b g = g
+good-along s symbols image bytes (x ∷ ss) [] replies b g = g
+good-along s symbols image bytes (x ∷ ss) (n ∷ ns) replies b g =
+    let c : CommandArgs = record { packet = bytesFrom bytes x n; symbols = symbols; image = image; reply = take 32 replies } in
+    good-along (commandCall s c .state) symbols (commandCall s c .image) bytes ss ns (drop 32 replies) b (demand-2 .command-good s c (packet-bytes bytes x n b) g)
 
 pub stays-good : StaysGood
 stays-good s a records b g =
@@ -94,7 +94,7 @@ stays-good s a records b g =
     (λ e. subst good (sym (command-in-order .refused s a records e)) g)
     (λ e.
     subst good (sym (command-in-order .equals s a records e))
-    (good-along s (a .image) (a .bytes) (a .starts) (a .lengths) (a .replies) b g))
+    (good-along s (a .symbols) (a .image) (a .bytes) (a .starts) (a .lengths) (a .replies) b g))
 
 -- WHAT FIXES THE EVENTS
 
@@ -103,25 +103,25 @@ no-events : (s : State) (a : BatchArgs) (records : ℕ) (xs : List Step) → unf
 no-events s a records xs e =
     rw e (ap (λ (o : Batch State). eventsAlong (o .left .state) xs) (command-in-order .refused s a records e))
 
-module _ (s : State) (bytes image replies : List ℕ) (records : ℕ) (xs : List Step) where
+module _ (s : State) (bytes symbols image replies : List ℕ) (records : ℕ) (xs : List Step) where
   abbrev empty : BatchArgs
-  empty = lends bytes [] [] image replies
+  empty = lends bytes [] [] symbols image replies
 
   no-item : eventsAlong s (many empty records ∷ xs) ≡ eventsAlong s xs
   no-item =
       rw (fits-in empty records (record { few = omega arith; equal = refl; room = omega arith; bytes = omega arith }))
-      (ap (λ (o : Batch State). eventsAlong (o .left .state) xs) (command-in-order .none s bytes image replies records))
+      (ap (λ (o : Batch State). eventsAlong (o .left .state) xs) (command-in-order .none s bytes symbols image replies records))
 
-module _ (s : State) (bytes : List ℕ) (start : ℕ) (ss : List ℕ) (n : ℕ) (ns image replies : List ℕ) (records : ℕ) (xs : List Step)
-    (h : unfit (lends bytes (start ∷ ss) (n ∷ ns) image replies) records ≡ false) where
+module _ (s : State) (bytes : List ℕ) (start : ℕ) (ss : List ℕ) (n : ℕ) (ns symbols image replies : List ℕ) (records : ℕ) (xs : List Step)
+    (h : unfit (lends bytes (start ∷ ss) (n ∷ ns) symbols image replies) records ≡ false) where
   abbrev c : CommandArgs
-  c = record { packet = bytesFrom bytes start n; image = image; reply = take 32 replies }
+  c = record { packet = bytesFrom bytes start n; symbols = symbols; image = image; reply = take 32 replies }
 
   abbrev whole : BatchArgs
-  whole = lends bytes (start ∷ ss) (n ∷ ns) image replies
+  whole = lends bytes (start ∷ ss) (n ∷ ns) symbols image replies
 
   abbrev others : BatchArgs
-  others = lends bytes ss ns (commandCall s c .image) (drop 32 replies)
+  others = lends bytes ss ns symbols (commandCall s c .image) (drop 32 replies)
 
   others-fit : unfit others (records - 1) ≡ false
   others-fit =
@@ -145,7 +145,7 @@ module _ (s : State) (bytes : List ℕ) (start : ℕ) (ss : List ℕ) (n : ℕ) 
       (ap
       (λ (t : State).
       event s (command c)
-      ∷ itemEvents (made onState (commandCall s c .state) (commandCall s c .image) (itemsAlong bytes ss ns (drop 32 replies)))
+      ∷ itemEvents (made onState symbols (commandCall s c .state) (commandCall s c .image) (itemsAlong bytes ss ns (drop 32 replies)))
       ++ eventsAlong t xs)
       same-state)
 

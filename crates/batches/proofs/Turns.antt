@@ -19,8 +19,8 @@ unfolding unfit
 fits a records h = fits-out a records h
 
 -- what item i is lent
-abbrev lent : (packet image replies : List ℕ) (i : ℕ) → CommandArgs
-lent packet image replies i = record { packet = packet; image = image; reply = take 32 (drop (32 * i) replies) }
+abbrev lent : (packet symbols image replies : List ℕ) (i : ℕ) → CommandArgs
+lent packet symbols image replies i = record { packet = packet; symbols = symbols; image = image; reply = take 32 (drop (32 * i) replies) }
 
 module _ {S : Type 0} (call : S → CommandArgs → Single S) (a : BatchArgs) (numbers sizes : List ℕ) (s : S) where
   abbrev left : ℕ → Left S
@@ -58,11 +58,11 @@ module _ {S : Type 0} (call : S → CommandArgs → Single S) (a : BatchArgs) (n
   module _ {i : ℕ} {state : S} {image replies ns ls packet : List ℕ} where
     pub turn : Upto i state image replies ns ls → Fits a (min (length numbers) (length sizes)) → i < itemsOf a → packet ≡ packetOf a i
         → {state₁ : S} {image₁ replies₁ ns₁ ls₁ : List ℕ}
-        → (state₁ ≡ call state (lent packet image replies i) .state)
-        × (image₁ ≡ call state (lent packet image replies i) .image)
-        × (replies₁ ≡ splice replies (32 * i) (call state (lent packet image replies i) .reply))
-        × (ns₁ ≡ set ns i (call state (lent packet image replies i) .number))
-        × (ls₁ ≡ set ls i (call state (lent packet image replies i) .length))
+        → (state₁ ≡ call state (lent packet (a .symbols) image replies i) .state)
+        × (image₁ ≡ call state (lent packet (a .symbols) image replies i) .image)
+        × (replies₁ ≡ splice replies (32 * i) (call state (lent packet (a .symbols) image replies i) .reply))
+        × (ns₁ ≡ set ns i (call state (lent packet (a .symbols) image replies i) .number))
+        × (ls₁ ≡ set ls i (call state (lent packet (a .symbols) image replies i) .length))
         → length image₁ ≡ length image → length replies₁ ≡ length replies → length ns₁ ≡ length ns → length ls₁ ≡ length ls
         → Upto (i + 1) state₁ image₁ replies₁ ns₁ ls₁
     unfolding leftBy

@@ -1,4 +1,4 @@
--- Paper 02, A1: up to 64 commands in one call. Said once for every single call: the command call on a State, and the one from C on a block.
+-- Paper 02, A1: up to 64 commands in one call, which are lent one symbol table (A2). Said once for every single call: the command call on a State, and the one from C on a block.
 use mathlib.Core.Path.{_≡_}
 use mathlib.Core.Bool.{Bool, true, false, not, _||_, cond}
 use mathlib.Core.List.{List, [], _∷_, _++_}
@@ -21,12 +21,13 @@ pub record BatchArgs : Type 0 where
   pub bytes : List ℕ
   pub starts : List ℕ
   pub lengths : List ℕ
+  pub symbols : List ℕ
   pub image : List ℕ
   pub replies : List ℕ
 
-abbrev pub lends : List ℕ → List ℕ → List ℕ → List ℕ → List ℕ → BatchArgs
-lends bytes starts lengths image replies =
-    record { bytes = bytes; starts = starts; lengths = lengths; image = image; replies = replies }
+abbrev pub lends : List ℕ → List ℕ → List ℕ → List ℕ → List ℕ → List ℕ → BatchArgs
+lends bytes starts lengths symbols image replies =
+    record { bytes = bytes; starts = starts; lengths = lengths; symbols = symbols; image = image; replies = replies }
 
 -- a single call, on a state of any form: its number, the length of its reply, and what it leaves
 pub record Single (S : Type 0) : Type 0 where
@@ -77,9 +78,9 @@ pub record Left (S : Type 0) : Type 0 where
   pub answers : List ItemAnswer
 
 module _ {S : Type 0} (call : S → CommandArgs → Single S) (a : BatchArgs) where
-  -- item i is lent its packet, the image as the item before left it, and bytes 32 i to 32 i + 31 of the reply buffer
+  -- item i is lent its packet, the batch's symbol table, the image as the item before left it, and bytes 32 i to 32 i + 31 of the reply buffer
   abbrev pub itemArgs : Left S → ℕ → CommandArgs
-  itemArgs l i = record { packet = packetOf a i; image = l .image; reply = take 32 (drop (32 * i) (l .replies)) }
+  itemArgs l i = record { packet = packetOf a i; symbols = a .symbols; image = l .image; reply = take 32 (drop (32 * i) (l .replies)) }
 
   abbrev pub itemCall : Left S → ℕ → Single S
   itemCall l i = call (l .state) (itemArgs l i)

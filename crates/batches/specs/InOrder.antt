@@ -36,13 +36,14 @@ pub record Made (S : Type 0) : Type 0 where
   pub args : CommandArgs
   pub gave : Single S
 
-module _ {S : Type 0} (call : S → CommandArgs → Single S) where
+-- all are lent the one symbol table
+module _ {S : Type 0} (call : S → CommandArgs → Single S) (symbols : List ℕ) where
   abbrev pub makes : S → List ℕ → Item → Made S
   makes s image x =
       record {
         given = s;
-        args = record { packet = x .packet; image = image; reply = x .reply };
-        gave = call s (record { packet = x .packet; image = image; reply = x .reply });
+        args = record { packet = x .packet; symbols = symbols; image = image; reply = x .reply };
+        gave = call s (record { packet = x .packet; symbols = symbols; image = image; reply = x .reply });
       }
 
   -- each is handed the state and the image that the one before left
@@ -83,19 +84,19 @@ leftOf s a ms =
 pub record InOrder {S : Type 0} (call : S → CommandArgs → Single S) : Type 0 where
   -- 0: the single calls in order
   pub equals : (s : S) (a : BatchArgs) (records : ℕ) → unfit a records ≡ false
-      → batch call s a records ≡ record { verdict = Accepted; left = leftOf s a (made call s (a .image) (items a)) }
+      → batch call s a records ≡ record { verdict = Accepted; left = leftOf s a (made call (a .symbols) s (a .image) (items a)) }
   -- 3: nothing changes
   pub refused : (s : S) (a : BatchArgs) (records : ℕ) → unfit a records ≡ true
       → batch call s a records
       ≡ record { verdict = Rejected BufferLength; left = record { state = s; image = a .image; replies = a .replies; answers = [] } }
   -- no item: nothing changes
-  pub none : (s : S) (bytes image replies : List ℕ) (records : ℕ)
-      → batch call s (lends bytes [] [] image replies) records
+  pub none : (s : S) (bytes symbols image replies : List ℕ) (records : ℕ)
+      → batch call s (lends bytes [] [] symbols image replies) records
       ≡ record { verdict = Accepted; left = record { state = s; image = image; replies = replies; answers = [] } }
   -- one item: the single call, and nothing of the definition of the batch
-  pub one : (s : S) (bytes : List ℕ) (start n : ℕ) (image replies : List ℕ) (records : ℕ) → 1 ≤ records → 32 ≤ length replies
-      → let c = call s (record { packet = bytesFrom bytes start n; image = image; reply = take 32 replies }) in
-      batch call s (lends bytes (start ∷ []) (n ∷ []) image replies) records
+  pub one : (s : S) (bytes : List ℕ) (start n : ℕ) (symbols image replies : List ℕ) (records : ℕ) → 1 ≤ records → 32 ≤ length replies
+      → let c = call s (record { packet = bytesFrom bytes start n; symbols = symbols; image = image; reply = take 32 replies }) in
+      batch call s (lends bytes (start ∷ []) (n ∷ []) symbols image replies) records
       ≡ record {
         verdict = Accepted;
         left =
@@ -107,13 +108,13 @@ pub record InOrder {S : Type 0} (call : S → CommandArgs → Single S) : Type 0
             };
       }
   -- items xs then ys in one call: a call with xs, and then one with ys on what it left
-  pub joined : (s : S) (bytes xs lxs ys lys image replies : List ℕ) (records : ℕ)
+  pub joined : (s : S) (bytes xs lxs ys lys symbols image replies : List ℕ) (records : ℕ)
       → length lxs ≡ length xs → length lys ≡ length ys
       → length xs + length ys ≤ 64 → length xs + length ys ≤ records → 32 * (length xs + length ys) ≤ length replies
       → (first second : Left S)
-      → first ≡ batch call s (lends bytes xs lxs image (take (32 * length xs) replies)) (length xs) .left
-      → second ≡ batch call (first .state) (lends bytes ys lys (first .image) (drop (32 * length xs) replies)) (records - length xs) .left
-      → batch call s (lends bytes (xs ++ ys) (lxs ++ lys) image replies) records
+      → first ≡ batch call s (lends bytes xs lxs symbols image (take (32 * length xs) replies)) (length xs) .left
+      → second ≡ batch call (first .state) (lends bytes ys lys symbols (first .image) (drop (32 * length xs) replies)) (records - length xs) .left
+      → batch call s (lends bytes (xs ++ ys) (lxs ++ lys) symbols image replies) records
       ≡ record {
         verdict = Accepted;
         left =
@@ -161,9 +162,9 @@ pub record Promises : Type 0 where
   pub in-plain : InPlain
   pub lists : LentLists
   -- one item: the command call, with the number and the length of its answer
-  pub one-command : (s : State) (bytes : List ℕ) (start n : ℕ) (image replies : List ℕ) (records : ℕ) → 1 ≤ records → 32 ≤ length replies
-      → let o = commandCall s (record { packet = bytesFrom bytes start n; image = image; reply = take 32 replies }) in
-      batch onState s (lends bytes (start ∷ []) (n ∷ []) image replies) records
+  pub one-command : (s : State) (bytes : List ℕ) (start n : ℕ) (symbols image replies : List ℕ) (records : ℕ) → 1 ≤ records → 32 ≤ length replies
+      → let o = commandCall s (record { packet = bytesFrom bytes start n; symbols = symbols; image = image; reply = take 32 replies }) in
+      batch onState s (lends bytes (start ∷ []) (n ∷ []) symbols image replies) records
       ≡ record {
         verdict = Accepted;
         left =

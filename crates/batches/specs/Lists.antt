@@ -44,7 +44,7 @@ itemEvents (m ∷ ms) = record { given = m .given; call = command (m .args); out
 -- the events of a call of the list: its own, or one for each item of a batch that is not refused
 abbrev pub eventsOf : State → Step → List Event
 eventsOf s (one c) = record { given = s; call = c; out = step s c } ∷ []
-eventsOf s (many a records) = cond (unfit a records) [] (itemEvents (made onState s (a .image) (items a)))
+eventsOf s (many a records) = cond (unfit a records) [] (itemEvents (made onState (a .symbols) s (a .image) (items a)))
 
 -- each call is handed the state that the one before it returned
 abbrev pub eventsAlong : State → List Step → List Event
@@ -76,10 +76,10 @@ pub record ItemsAreCalls : Type 0 where
       → eventsAlong s (one c ∷ xs) ≡ record { given = s; call = c; out = step s c } ∷ eventsAlong (step s c .state) xs
   pub refused : (s : State) (a : BatchArgs) (records : ℕ) (xs : List Step) → unfit a records ≡ true
       → eventsAlong s (many a records ∷ xs) ≡ eventsAlong s xs
-  pub no-item : (s : State) (bytes image replies : List ℕ) (records : ℕ) (xs : List Step)
-      → eventsAlong s (many (lends bytes [] [] image replies) records ∷ xs) ≡ eventsAlong s xs
-  pub first-item : (s : State) (bytes : List ℕ) (start : ℕ) (ss : List ℕ) (n : ℕ) (ns image replies : List ℕ) (records : ℕ) (xs : List Step)
-      → unfit (lends bytes (start ∷ ss) (n ∷ ns) image replies) records ≡ false
-      → let c : CommandArgs = record { packet = bytesFrom bytes start n; image = image; reply = take 32 replies } in
-      eventsAlong s (many (lends bytes (start ∷ ss) (n ∷ ns) image replies) records ∷ xs)
-      ≡ eventsAlong s (one (command c) ∷ many (lends bytes ss ns (commandCall s c .image) (drop 32 replies)) (records - 1) ∷ xs)
+  pub no-item : (s : State) (bytes symbols image replies : List ℕ) (records : ℕ) (xs : List Step)
+      → eventsAlong s (many (lends bytes [] [] symbols image replies) records ∷ xs) ≡ eventsAlong s xs
+  pub first-item : (s : State) (bytes : List ℕ) (start : ℕ) (ss : List ℕ) (n : ℕ) (ns symbols image replies : List ℕ) (records : ℕ) (xs : List Step)
+      → unfit (lends bytes (start ∷ ss) (n ∷ ns) symbols image replies) records ≡ false
+      → let c : CommandArgs = record { packet = bytesFrom bytes start n; symbols = symbols; image = image; reply = take 32 replies } in
+      eventsAlong s (many (lends bytes (start ∷ ss) (n ∷ ns) symbols image replies) records ∷ xs)
+      ≡ eventsAlong s (one (command c) ∷ many (lends bytes ss ns symbols (commandCall s c .image) (drop 32 replies)) (records - 1) ∷ xs)

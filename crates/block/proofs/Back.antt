@@ -113,6 +113,7 @@ module _ (s : State) (f : Fits s) where
         tail-word s 2,
         tail-word s 3,
         tail-word s 4,
+        tail-word s 5,
       )
 
   rights-bounds : regionsBounds (blockOf s) 1 ≡ true
@@ -129,7 +130,7 @@ module _ (s : State) (f : Fits s) where
   unfolding isBlock
   block-good =
       rw (
-        eq-eqb (length (blockOf s)) 79 (block-length s),
+        eq-eqb (length (blockOf s)) 80 (block-length s),
         rights-bounds,
         pool-word s 4 (omega arith),
         le-leb (s .unit) 255 (omega arith),
@@ -142,9 +143,11 @@ module _ (s : State) (f : Fits s) where
         tail-word s 2,
         tail-word s 3,
         tail-word s 4,
+        tail-word s 5,
         le-leb (s .last) 255 (omega arith),
         le-leb (s .replies) 65535 (omega arith),
         le-leb (s .packets) 65535 (omega arith),
         le-leb (s .accepted) 65535 (omega arith),
         le-leb (s .refused) 65535 (omega arith),
+        le-leb (s .values) 65535 (omega arith),
       )

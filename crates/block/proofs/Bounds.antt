@@ -30,6 +30,7 @@ pub record CountsBounds (b : List ℕ) : Type 0 where
   pub packets : word b 76 ≤ 65535
   pub accepted : word b 77 ≤ 65535
   pub refused : word b 78 ≤ 65535
+  pub values : word b 79 ≤ 65535
 
 pub counts-out : (b : List ℕ) → countsBounds b ≡ true → CountsBounds b
 counts-out b h =
@@ -38,17 +39,20 @@ counts-out b h =
     let r = leb (word b 76) 65535 in
     let s = leb (word b 77) 65535 in
     let t = leb (word b 78) 65535 in
-    let f = four-out p q r s (and-left (p && q && r && s) t h) in
+    let v = leb (word b 79) 65535 in
+    let five = and-left (p && q && r && s && t) v h in
+    let f = four-out p q r s (and-left (p && q && r && s) t five) in
     record {
       last = leb-true (word b 74) 255 (f .first);
       replies = leb-true (word b 75) 65535 (f .second);
       packets = leb-true (word b 76) 65535 (f .third);
       accepted = leb-true (word b 77) 65535 (f .fourth);
-      refused = leb-true (word b 78) 65535 (and-right (p && q && r && s) t h);
+      refused = leb-true (word b 78) 65535 (and-right (p && q && r && s) t five);
+      values = leb-true (word b 79) 65535 (and-right (p && q && r && s && t) v h);
     }
 
 pub record BlockBounds (b : List ℕ) : Type 0 where
-  pub words : length b ≡ 79
+  pub words : length b ≡ 80
   pub regions : regionsBounds b 1 ≡ true
   pub unit : word b 53 ≤ 255
   pub places : placesBounds b ≡ true
@@ -57,12 +61,12 @@ pub record BlockBounds (b : List ℕ) : Type 0 where
 pub block-out : (b : List ℕ) → isBlock b ≡ true → BlockBounds b
 unfolding isBlock
 block-out b h =
-    let n = eqb (length b) 79 in
+    let n = eqb (length b) 80 in
     let u = leb (word b 53) 255 in
     let rest = regionsBounds b 1 && u && placesBounds b && countsBounds b in
     let f = four-out (regionsBounds b 1) u (placesBounds b) (countsBounds b) (and-right n rest h) in
     record {
-      words = eqb-true (length b) 79 (and-left n rest h);
+      words = eqb-true (length b) 80 (and-left n rest h);
       regions = f .first;
       unit = leb-true (word b 53) 255 (f .second);
       places = f .third;
@@ -71,6 +75,6 @@ block-out b h =
 
 -- A BLOCK OF ANOTHER LENGTH
 
-pub not-block : (b : List ℕ) → length b ≢ 79 → isBlock b ≡ false
+pub not-block : (b : List ℕ) → length b ≢ 80 → isBlock b ≡ false
 unfolding isBlock
-not-block b n = rw (ne-eqb (length b) 79 n)
+not-block b n = rw (ne-eqb (length b) 80 n)

@@ -136,16 +136,17 @@ module _ (b : List ℕ) (g : BlockBounds b) where
       (λ i k l m. ap (λ (p : Place). word (contextWords (p .context)) k) (list-at idlePlace (λ j. placeIn b (54 + 5 * j)) 4 i l)
       ∙ context-forth b (54 + 5 * i) (place-bounds i l) k m)
 
-  tail-front : take 74 b ++ (word b 74 ∷ word b 75 ∷ word b 76 ∷ word b 77 ∷ word b 78 ∷ []) ≡ take 79 b
-  tail-front = let n = g .words in front-more b (word b 74 ∷ word b 75 ∷ word b 76 ∷ word b 77 ∷ word b 78 ∷ []) 74 (omega arith) each
+  tail-front : take 74 b ++ (word b 74 ∷ word b 75 ∷ word b 76 ∷ word b 77 ∷ word b 78 ∷ word b 79 ∷ []) ≡ take 80 b
+  tail-front = let n = g .words in front-more b (word b 74 ∷ word b 75 ∷ word b 76 ∷ word b 77 ∷ word b 78 ∷ word b 79 ∷ []) 74 (omega arith) each
     where
-      each : (k : ℕ) → k < 5 → word (word b 74 ∷ word b 75 ∷ word b 76 ∷ word b 77 ∷ word b 78 ∷ []) k ≡ word b (74 + k)
+      each : (k : ℕ) → k < 6 → word (word b 74 ∷ word b 75 ∷ word b 76 ∷ word b 77 ∷ word b 78 ∷ word b 79 ∷ []) k ≡ word b (74 + k)
       each zero l = refl
       each (suc zero) l = refl
       each (suc (suc zero)) l = refl
       each (suc (suc (suc zero))) l = refl
       each (suc (suc (suc (suc zero)))) l = refl
-      each (suc (suc (suc (suc (suc k))))) l = absurd (omega arith)
+      each (suc (suc (suc (suc (suc zero))))) l = refl
+      each (suc (suc (suc (suc (suc (suc k)))))) l = absurd (omega arith)
 
 -- only the number of regions has no bounds of its own
 pub block-of : (b : List ℕ) → word b 0 < 4294967296 → isBlock b ≡ true → blockOf (stateOf b) ≡ b
@@ -156,13 +157,13 @@ block-of b h e =
     let rs = regionsWords (regionsIn b 1) in
     let ps = poolsWords (poolsIn b 49) ++ (word b 53 ∷ []) in
     let qs = placesWords (placesIn b 54) in
-    let t = word b 74 ∷ word b 75 ∷ word b 76 ∷ word b 77 ∷ word b 78 ∷ [] in
+    let t = word b 74 ∷ word b 75 ∷ word b 76 ∷ word b 77 ∷ word b 78 ∷ word b 79 ∷ [] in
     ap (λ (u : List ℕ). u ++ rs ++ ps ++ qs ++ t) (head-front b g h)
     ∙ ap (λ (u : List ℕ). u ++ ps ++ qs ++ t) (regions-front b g)
     ∙ ap (λ (u : List ℕ). u ++ qs ++ t) (pools-front b g)
     ∙ ap (λ (u : List ℕ). u ++ t) (places-front b g)
     ∙ tail-front b g
-    ∙ take-all 79 b (omega arith)
+    ∙ take-all 80 b (omega arith)
 
 pub block-forth : (b : List ℕ) → ((i : ℕ) → word b i < 4294967296) → isBlock b ≡ true → blockOf (stateOf b) ≡ b
 block-forth b h e = block-of b (h 0) e

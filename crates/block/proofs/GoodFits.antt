@@ -28,6 +28,7 @@ pub good-fits : (s : State) → Good s → length (s .regions) ≡ 16 → length
 good-fits s g r p =
     let low = g .last in
     let a = g .replies in
+    let v = g .values in
     let b = g .packets in
     let c = g .accepted in
     let d = g .refused in
@@ -45,6 +46,7 @@ good-fits s g r p =
           (λ h. let l = ltb-false i 4 h in rw (past-last (s .places) i (omega arith)) tt);
       last = omega arith;
       replies = omega arith;
+      values = omega arith;
       packets = omega arith;
       accepted = omega arith;
       refused = omega arith;

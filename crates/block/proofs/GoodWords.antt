@@ -59,5 +59,5 @@ module _ (b : List ℕ) (good : (isBlock b && goodState (stateOf b)) ≡ true) w
   pub state-is : goodState (stateOf b) ≡ true
   state-is = and-right (isBlock b) (goodState (stateOf b)) good
 
-  pub block-words : length b ≡ 79
+  pub block-words : length b ≡ 80
   block-words = block-out b block-is .words

@@ -24,7 +24,7 @@ regions-words-length rs = runs-length (λ i. regionWords (regionAt rs i)) 3 (λ 
 pub places-words-length : (ps : List Place) → length (placesWords ps) ≡ 20
 places-words-length ps = runs-length (λ i. contextWords (contextAt ps i)) 5 (λ i. context-words-length (contextAt ps i)) 4
 
-pub block-length : (s : State) → length (blockOf s) ≡ 79
+pub block-length : (s : State) → length (blockOf s) ≡ 80
 unfolding blockOf
 block-length s =
     let r = regions-words-length (s .regions) in

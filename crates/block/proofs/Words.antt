@@ -12,7 +12,7 @@ use Rattle.block.specs.Blocks.{regionWords, contextWords, regionsWords, 
 use Rattle.block.proofs.Runs.{in-front, in-rest, runs-at}
 use Rattle.block.proofs.Lengths.{context-words-length, regions-words-length, places-words-length}
 
--- five lists of 1, 48, 5, 20 and 5 words
+-- five lists of 1, 48, 5, 20 and 6 words
 module _ (h r m p t : List ℕ) (lh : length h ≡ 1) (lr : length r ≡ 48) (lm : length m ≡ 5) (lp : length p ≡ 20) where
   in-first : word (h ++ r ++ m ++ p ++ t) 0 ≡ word h 0
   in-first =
@@ -47,7 +47,7 @@ module _ (s : State) where
   unfolding blockOf
   count-word =
       in-first (min 4294967295 (s .count) ∷ []) (regionsWords (s .regions)) (poolsWords (s .pools) ++ (s .unit ∷ [])) (placesWords (s .places))
-      (s .last ∷ s .replies ∷ s .packets ∷ s .accepted ∷ s .refused ∷ [])
+      (s .last ∷ s .replies ∷ s .packets ∷ s .accepted ∷ s .refused ∷ s .values ∷ [])
       refl (regions-words-length (s .regions)) refl (places-words-length (s .places))
 
   pub region-word : (i k : ℕ) → i < 16 → k < 3 → word (blockOf s) (1 + 3 * i + k) ≡ word (regionWords (regionAt (s .regions) i)) k
@@ -56,7 +56,7 @@ module _ (s : State) where
       let e : 1 + 3 * i + k ≡ 1 + (3 * i + k) = omega arith in
       ap (word (blockOf s)) e
       ∙ in-second (min 4294967295 (s .count) ∷ []) (regionsWords (s .regions)) (poolsWords (s .pools) ++ (s .unit ∷ [])) (placesWords (s .places))
-      (s .last ∷ s .replies ∷ s .packets ∷ s .accepted ∷ s .refused ∷ [])
+      (s .last ∷ s .replies ∷ s .packets ∷ s .accepted ∷ s .refused ∷ s .values ∷ [])
       refl (regions-words-length (s .regions)) refl (places-words-length (s .places)) (3 * i + k) (omega arith)
       ∙ runs-at 0 (λ j. regionWords (regionAt (s .regions) j)) 3 (λ j. refl) 16 i k l m
 
@@ -64,7 +64,7 @@ module _ (s : State) where
   unfolding blockOf
   pool-word k l =
       in-third (min 4294967295 (s .count) ∷ []) (regionsWords (s .regions)) (poolsWords (s .pools) ++ (s .unit ∷ [])) (placesWords (s .places))
-      (s .last ∷ s .replies ∷ s .packets ∷ s .accepted ∷ s .refused ∷ [])
+      (s .last ∷ s .replies ∷ s .packets ∷ s .accepted ∷ s .refused ∷ s .values ∷ [])
       refl (regions-words-length (s .regions)) refl (places-words-length (s .places)) k l
 
   pub place-word : (i k : ℕ) → i < 4 → k < 5 → word (blockOf s) (54 + 5 * i + k) ≡ word (contextWords (contextAt (s .places) i)) k
@@ -73,13 +73,13 @@ module _ (s : State) where
       let e : 54 + 5 * i + k ≡ 54 + (5 * i + k) = omega arith in
       ap (word (blockOf s)) e
       ∙ in-fourth (min 4294967295 (s .count) ∷ []) (regionsWords (s .regions)) (poolsWords (s .pools) ++ (s .unit ∷ [])) (placesWords (s .places))
-      (s .last ∷ s .replies ∷ s .packets ∷ s .accepted ∷ s .refused ∷ [])
+      (s .last ∷ s .replies ∷ s .packets ∷ s .accepted ∷ s .refused ∷ s .values ∷ [])
       refl (regions-words-length (s .regions)) refl (places-words-length (s .places)) (5 * i + k) (omega arith)
       ∙ runs-at 0 (λ j. contextWords (contextAt (s .places) j)) 5 (λ j. context-words-length (contextAt (s .places) j)) 4 i k l m
 
-  pub tail-word : (k : ℕ) → word (blockOf s) (74 + k) ≡ word (s .last ∷ s .replies ∷ s .packets ∷ s .accepted ∷ s .refused ∷ []) k
+  pub tail-word : (k : ℕ) → word (blockOf s) (74 + k) ≡ word (s .last ∷ s .replies ∷ s .packets ∷ s .accepted ∷ s .refused ∷ s .values ∷ []) k
   unfolding blockOf
   tail-word k =
       in-fifth (min 4294967295 (s .count) ∷ []) (regionsWords (s .regions)) (poolsWords (s .pools) ++ (s .unit ∷ [])) (placesWords (s .places))
-      (s .last ∷ s .replies ∷ s .packets ∷ s .accepted ∷ s .refused ∷ [])
+      (s .last ∷ s .replies ∷ s .packets ∷ s .accepted ∷ s .refused ∷ s .values ∷ [])
       refl (regions-words-length (s .regions)) refl (places-words-length (s .places)) k

@@ -53,4 +53,5 @@ module _ (s : State) where
         packets = tail-word s 2;
         accepted = tail-word s 3;
         refused = tail-word s 4;
+        values = tail-word s 5;
       }

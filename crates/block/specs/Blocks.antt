@@ -43,15 +43,15 @@ poolsWords ps = startOf (poolAt ps 0) ∷ poolAt ps 0 .words ∷ startOf (poolAt
 abbrev pub placesWords : List Place → List ℕ
 placesWords ps = runs (λ i. contextWords (getD ps i idlePlace .context)) 4
 
--- the 79 words of a state: number of regions, sixteen regions, two pools, unit, four places, last place served, and the counts.
+-- the 80 words of a state: number of regions, sixteen regions, two pools, unit, four places, last place served, and the counts.
 -- A number of regions beyond 32 bits, which no block gives, stands as the greatest word: as bad a state.
 unfoldable pub blockOf : State → List ℕ
 blockOf s =
     (min 4294967295 (s .count) ∷ []) ++ regionsWords (s .regions) ++ (poolsWords (s .pools) ++ (s .unit ∷ [])) ++ placesWords (s .places)
-    ++ (s .last ∷ s .replies ∷ s .packets ∷ s .accepted ∷ s .refused ∷ [])
+    ++ (s .last ∷ s .replies ∷ s .packets ∷ s .accepted ∷ s .refused ∷ s .values ∷ [])
 
 abbrev pub stateWords : ℕ
-stateWords = 79
+stateWords = 80
 
 -- READ
 
@@ -96,6 +96,7 @@ stateOf b =
       packets = word b 76;
       accepted = word b 77;
       refused = word b 78;
+      values = word b 79;
     }
 
 -- BOUNDS
@@ -115,9 +116,9 @@ placesBounds b = placeBounds b 54 && placeBounds b 59 && placeBounds b 64 && pla
 
 abbrev pub countsBounds : List ℕ → Bool
 countsBounds b =
-    leb (word b 74) 255 && leb (word b 75) 65535 && leb (word b 76) 65535 && leb (word b 77) 65535 && leb (word b 78) 65535
+    leb (word b 74) 255 && leb (word b 75) 65535 && leb (word b 76) 65535 && leb (word b 77) 65535 && leb (word b 78) 65535 && leb (word b 79) 65535
 
--- a block that is a state: of 79 words, each in its bounds
+-- a block that is a state: of 80 words, each in its bounds
 unfoldable pub isBlock : List ℕ → Bool
 isBlock b = eqb (length b) stateWords && (regionsBounds b 1 && leb (word b 53) 255 && placesBounds b && countsBounds b)
 

@@ -4,7 +4,7 @@ use mathlib.Core.List.{List}
 use Prim.Native.Nat.{ℕ}
 use lib.Dec.{eqb}
 use lib.ListN.{length, replicate}
-use Rattle.rules.specs.Commands.{Outcome, commandCall}
+use Rattle.rules.specs.Commands.{CommandArgs, Outcome, commandCall}
 use Rattle.rules.specs.Regions.{noRange, noRegion, imageLength}
 use Rattle.rules.specs.Results.{verdictNumber, answerNumber, answerLength}
 use Rattle.rules.specs.Slots.{slotCall}
@@ -79,6 +79,5 @@ onState state image buffer call =
 abbrev pub lgSlot : List ℕ → ℕ → List ℕ → List ℕ → CallLeft
 lgSlot state tick image buffer = onState state image buffer (λ s. slotCall s (record { tick = tick; image = image; buffer = buffer }))
 
-abbrev pub lgCommand : List ℕ → List ℕ → List ℕ → List ℕ → CallLeft
-lgCommand state packet image reply =
-    onState state image reply (λ s. commandCall s (record { packet = packet; image = image; reply = reply }))
+abbrev pub lgCommand : List ℕ → CommandArgs → CallLeft
+lgCommand state c = onState state (c .image) (c .reply) (λ s. commandCall s c)

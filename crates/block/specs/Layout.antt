@@ -15,7 +15,7 @@ abbrev pub at : State → ℕ → ℕ
 at s i = getD (blockOf s) i 0
 
 pub record Layout (s : State) : Type 0 where
-  pub words : length (blockOf s) ≡ 79
+  pub words : length (blockOf s) ≡ 80
   pub count : s .count < 4294967296 → at s 0 ≡ s .count
   pub region-start : (i : ℕ) → i < 16 → at s (1 + 3 * i) ≡ startOf (regionAt (s .regions) i .range)
   pub region-size : (i : ℕ) → i < 16 → at s (2 + 3 * i) ≡ regionAt (s .regions) i .range .words
@@ -33,3 +33,4 @@ pub record Layout (s : State) : Type 0 where
   pub packets : at s 76 ≡ s .packets
   pub accepted : at s 77 ≡ s .accepted
   pub refused : at s 78 ≡ s .refused
+  pub values : at s 79 ≡ s .values

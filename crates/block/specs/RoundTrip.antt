@@ -24,6 +24,7 @@ pub record Fits (s : State) : Type 0 where
   pub contexts : (i : ℕ) → ContextFits (contextAt (s .places) i)
   pub last : s .last < 256
   pub replies : s .replies < 65536
+  pub values : s .values < 65536
   pub packets : s .packets < 65536
   pub accepted : s .accepted < 65536
   pub refused : s .refused < 65536

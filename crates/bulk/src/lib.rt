@@ -2,11 +2,11 @@
 ghost use mathlib.Core.Path.{_≡_};
 ghost use mathlib.Core.Bool.{true, false};
 ghost use mathlib.Core.List.{[]};
-ghost use Prim.Native.Nat.{_+_, _≤_, _<_, min};
+ghost use Prim.Native.Nat.{_+_, _*_, _≤_, _<_, min};
 ghost use lib.ListN.{length, take, drop};
 ghost use Rattle.lists.specs.Splice.{splice};
-ghost use Rattle.wire.specs.Bytes.{beAt, wordBytes};
-ghost use Rattle.rules.specs.Packets.{dataWords};
+ghost use Rattle.wire.specs.Bytes.{beAt, wordBytes, wordsAt};
+ghost use Rattle.rules.specs.Packets.{dataWords, nameWords};
 ghost use Rattle.bulk.specs.DumpBytes.{headBytes, dumpPacketBytes, PacketFits, packetFits};
 use rules::DumpPacket;
 use rules::WordIndex;
@@ -62,7 +62,7 @@ pub fn put_packet(buffer: &mut [u8], f: DumpPacket, words: &[u32])
     put_words(buffer, 28, words);
 }
 
-// The word in four bytes of a load packet. The test is the same for every word of a packet, so the compiler takes it out of the loop,
+// The word in four bytes of a load or of a name. The test is the same for every word of a packet, so the compiler takes it out of the loop,
 // and what is left there is one load and one swap.
 fn word_at(packet: &[u8], at: usize) -> u32
     requires { ⌜ at + 4 ≤ 60 ⌝ }
@@ -86,14 +86,14 @@ fn has_words(length: usize, at: WordIndex, n: usize) -> bool
     n <= length - from
 }
 
-// The first n words of a load packet's data, from index `from` of a slice of words on.
-fn store_run(words: &mut [u32], from: usize, packet: &[u8], n: usize)
-    requires { ⌜ (n ≤ 11) × (from + n ≤ length (now words)) ⌝ }
-    ensures { λ _. ⌜ now (words .exit) ≡ splice (now (words .entry)) from (take n (dataWords (now (packet .entry)))) ⌝ }
+// The n words of a packet from byte `at` on, from index `from` of a slice of words on.
+fn store_run(words: &mut [u32], from: usize, packet: &[u8], at: usize, n: usize)
+    requires { ⌜ (at + 4 * n ≤ 60) × (from + n ≤ length (now words)) ⌝ }
+    ensures { λ _. ⌜ now (words .exit) ≡ splice (now (words .entry)) from (wordsAt n (now (packet .entry)) at) ⌝ }
 {
     let mut i = 0;
     while i < n {
-        let w = word_at(packet, 16 + 4 * i);
+        let w = word_at(packet, at + 4 * i);
         words[from + i] = w;
         i += 1;
     }
@@ -112,7 +112,7 @@ pub fn store_words(image: &mut [u32], at: WordIndex, packet: &[u8], n: usize)
         return;
     }
     let from = at.0;
-    store_run(image, from, packet, n);
+    store_run(image, from, packet, 16, n);
 }
 
 // The same at the start of a slice of words.
@@ -122,6 +122,18 @@ pub fn load_words(words: &mut [u32], packet: &[u8], n: usize)
         × ((n ≤ 11 → n ≤ length (now (words .entry)) → ⊥) → now (words .exit) ≡ now (words .entry)) ⌝ }
 {
     store_words(words, WordIndex(0), packet, n);
+}
+
+// The twelve words of a packet's name field, at the start of a slice of words. Where it has fewer, nothing is written.
+pub fn name_words(words: &mut [u32], packet: &[u8])
+    ensures { λ _. ⌜
+        (12 ≤ length (now (words .entry)) → now (words .exit) ≡ splice (now (words .entry)) 0 (nameWords (now (packet .entry))))
+        × (length (now (words .entry)) < 12 → now (words .exit) ≡ now (words .entry)) ⌝ }
+{
+    if words.len() < 12 {
+        return;
+    }
+    store_run(words, 0, packet, 12, 12);
 }
 
 // The word n words on. Where there is none, the last index: no image has a word there.

@@ -102,7 +102,7 @@ bad-single : (b : List ℕ) → ((i : ℕ) → word b i < 4294967296) → (isBlo
     → onBlock b c ≡ record { number = 1; length = 0; state = b; image = c .image; reply = c .reply }
 bad-single b w h c =
     ap (λ (o : CallLeft). record { number = o .number; length = o .bytes; state = o .state; image = o .image; reply = o .buffer })
-    (other b (c .image) (c .reply) (λ s. commandCall s c) w (bad-command b (c .packet) (c .image) (c .reply) w) h)
+    (other b (c .image) (c .reply) (λ s. commandCall s c) w (bad-command b c w) h)
 
 pub batches-from-c : BatchesFromC
 batches-from-c =

@@ -1,6 +1,6 @@
 -- Start-up with a table block is start-up with the table.
 -- Assumes nothing.
-use mathlib.Core.Path.{_≡_, refl, ap, _∙_}
+use mathlib.Core.Path.{_≡_, refl, _∙_}
 use mathlib.Core.Bool.{Bool, true, false, _&&_, cond}
 use mathlib.Core.List.{List, [], _∷_, _++_}
 use Prim.Native.Nat.{ℕ, _+_, _*_, _%_, _≤_, _<_}
@@ -79,13 +79,13 @@ module _ (t : List ℕ) (rs : List Region) (n : ℕ) (pools : List Range) (unit 
   unfolding isTable
   is-table = let f = h .unit-fits in rw (eq-eqb (length t) 54 (h .words), h .unit-word, le-leb unit 255 (omega arith), bounds)
 
-pub start-is : (t : List ℕ) (rs : List Region) (n : ℕ) (pools : List Range) (unit : ℕ) (b : List ℕ) → TableBlock t rs n pools unit → length b ≡ 79
+pub start-is : (t : List ℕ) (rs : List Region) (n : ℕ) (pools : List Range) (unit : ℕ) (b : List ℕ) → TableBlock t rs n pools unit → length b ≡ 80
     → lgStartUp t b ≡ record { number = verdictNumber (startUp rs n pools unit .verdict); state = blockOf (startUp rs n pools unit .state) }
 unfolding lgStartUp tableOf
 start-is t rs n pools unit b h k =
     rw (
       eq-eqb (length t) 54 (h .words),
-      eq-eqb (length b) 79 k,
+      eq-eqb (length b) 80 k,
       is-table t rs n pools unit h,
       pools-are t rs n pools unit h,
       regions-are t rs n pools unit h,
@@ -99,20 +99,20 @@ no-table : startRules (replicate 16 noRegion) 0 (replicate 2 noRange) 0 ≡ fals
 unfolding startRules tableRules
 no-table = refl
 
-none-block : blockOf noState ≡ replicate 74 0 ++ 3 ∷ 0 ∷ 0 ∷ 0 ∷ 0 ∷ []
+none-block : blockOf noState ≡ replicate 74 0 ++ 3 ∷ 0 ∷ 0 ∷ 0 ∷ 0 ∷ 0 ∷ []
 unfolding blockOf runs
 none-block = refl
 
 module _ (t b : List ℕ) where
-  not-table : length t ≡ 54 → length b ≡ 79 → isTable t ≡ false → NotStarted t b
+  not-table : length t ≡ 54 → length b ≡ 80 → isTable t ≡ false → NotStarted t b
   unfolding lgStartUp tableOf startUp
-  not-table n k e = rw (eq-eqb (length t) 54 n, eq-eqb (length b) 79 k, e, no-table, none-block)
+  not-table n k e = rw (eq-eqb (length t) 54 n, eq-eqb (length b) 80 k, e, no-table, none-block)
 
   wide-unit : length t ≡ 54 → 255 < word t 0 → isTable t ≡ false
   unfolding isTable
   wide-unit n h = rw (eq-eqb (length t) 54 n, lt-leb (word t 0) 255 h)
 
-  pub not-unit : length t ≡ 54 → length b ≡ 79 → 255 < word t 0 → NotStarted t b
+  pub not-unit : length t ≡ 54 → length b ≡ 80 → 255 < word t 0 → NotStarted t b
   not-unit n k h = not-table n k (wide-unit n h)
 
 module _ (t b : List ℕ) (i : ℕ) (n : length t ≡ 54) where
@@ -123,12 +123,12 @@ module _ (t b : List ℕ) (i : ℕ) (n : length t ≡ 54) where
       (λ e. let m : word t (6 + 3 * i + 2) ≤ 3 = leb-true (word t (6 + 3 * i + 2)) 3 (all-at (λ j. leb (word t (6 + 3 * j + 2)) 3) 16 (and-right (leb (word t 0) 255) (regionsBounds t 6) (and-right (eqb (length t) 54) (leb (word t 0) 255 && regionsBounds t 6) e)) l) in absurd (omega arith))
       (λ e. e)
 
-  pub not-rights : length b ≡ 79 → i < 16 → 3 < word t (6 + 3 * i + 2) → NotStarted t b
+  pub not-rights : length b ≡ 80 → i < 16 → 3 < word t (6 + 3 * i + 2) → NotStarted t b
   not-rights k l h = not-table t b n k (wide-rights l h)
 
-pub other-lengths : (t b : List ℕ) → (length t ≡ 54 → length b ≡ 79 → ⊥) → lgStartUp t b ≡ record { number = 17; state = b }
+pub other-lengths : (t b : List ℕ) → (length t ≡ 54 → length b ≡ 80 → ⊥) → lgStartUp t b ≡ record { number = 17; state = b }
 unfolding lgStartUp
 other-lengths t b h =
     either (eqb (length t) 54)
-    (λ e. rw e (either (eqb (length b) 79) (λ k. absurd (h (eqb-true (length t) 54 e) (eqb-true (length b) 79 k))) (λ k. rw k)))
+    (λ e. rw e (either (eqb (length b) 80) (λ k. absurd (h (eqb-true (length t) 54 e) (eqb-true (length b) 80 k))) (λ k. rw k)))
     (λ e. rw e)

@@ -30,9 +30,9 @@ pub record BatchesFromC : Type 0 where
   pub commands : (s : State) → Good s → length (s .regions) ≡ 16 → length (s .pools) ≡ 2 → (a : BatchArgs) (records : ℕ) → AreBytes (a .bytes)
       → lgCommands (blockOf s) a records ≡ inBlock (batch onState s a records)
   -- one item: the command call of C
-  pub one-command : (b bytes : List ℕ) (start n : ℕ) (image replies : List ℕ) (records : ℕ) → 1 ≤ records → 32 ≤ length replies
-      → let o = lgCommand b (bytesFrom bytes start n) image (take 32 replies) in
-      lgCommands b (lends bytes (start ∷ []) (n ∷ []) image replies) records
+  pub one-command : (b bytes : List ℕ) (start n : ℕ) (symbols image replies : List ℕ) (records : ℕ) → 1 ≤ records → 32 ≤ length replies
+      → let o = lgCommand b (record { packet = bytesFrom bytes start n; symbols = symbols; image = image; reply = take 32 replies }) in
+      lgCommands b (lends bytes (start ∷ []) (n ∷ []) symbols image replies) records
       ≡ record {
         verdict = Accepted;
         left =

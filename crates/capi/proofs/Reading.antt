@@ -2,24 +2,23 @@
 -- Assumes nothing.
 use mathlib.Core.Path.{_≡_, refl, sym, ap, _∙_}
 use mathlib.Core.Logic.{_≢_}
-use mathlib.Core.List.{List, [], _++_, append-nil}
+use mathlib.Core.List.{List, _++_}
 use Prim.Native.Nat.{ℕ, _+_, _*_, _≤_}
 use native.Mathlib.Omega.{arith}
-use lib.ListN.{length, take, drop, length-take, length-drop, drop-of-length-le}
+use lib.ListN.{length, take, drop, length-append, length-take, length-drop}
+use lib.Seq.{drop-drop}
 use borrow.Rule.Slice.PartMut.{putMid}
 use borrow.Author.Tests.{eq-eqb, ne-eqb}
 use Rattle.lists.specs.Splice.{splice}
-use Rattle.lists.proofs.Splice.{splice-length, splice-front}
-use Rattle.wire.proofs.Words.{words-at-length}
-use Rattle.rules.specs.Ground.{readerRows, packetRows, wordsBeside, fieldsRead, concludeRead, readCommand, concludePacket, readPacket, packetFields, packetNumber}
-use Rattle.rules.specs.Packets.{decode}
+use Rattle.lists.proofs.Runs.{splice-splice}
+use Rattle.lists.proofs.Splice.{splice-length}
+use Rattle.wire.specs.Bytes.{wordsAt}
+use Rattle.rules.specs.Ground.{packetRows, wordsBeside, readCommand, concludePacket, readPacket, packetFields, packetNumber}
 use Rattle.rules.specs.Results.{number, lowest}
 use Rattle.rules.specs.States.{pieceWords}
 use Rattle.rules.specs.declared.Command.{Command}
-use Rattle.rules.specs.declared.Command.the-variants.{Dump, Cancel, Load, PoolStatistics}
+use Rattle.rules.specs.declared.Command.the-variants.{Dump, Cancel, Load, PoolStatistics, SymbolValue, DumpSymbol}
 use Rattle.rules.specs.declared.CommandRead.{CommandRead}
-use Rattle.rules.specs.declared.Decoded.{Decoded}
-use Rattle.rules.specs.declared.Decoded.the-variants.{Unknown, Known}
 use Rattle.rules.specs.declared.DumpPacket.{DumpPacket}
 use Rattle.rules.specs.declared.PacketReading.{PacketReading}
 use Rattle.rules.specs.declared.PacketReading.the-variants.{NoPacket, Packet}
@@ -32,7 +31,7 @@ use Rattle.rules.specs.declared.Verdict.the-variants.{Accepted, Rejected}
 use Rattle.rules.proofs.PacketTests.{packet-out, packet-in}
 use Rattle.block.proofs.Runs.{splice-all}
 use Rattle.command_reader.proofs.Steps.{read-result}
-use Rattle.ground_blocks.specs.Fields.{bodyWords, headWords, fieldWords}
+use Rattle.ground_blocks.specs.Fields.{bodyWords, tailWords, headWords, fieldWords}
 use Rattle.capi.specs.Commands.{lgReadCommand, lgReadPacket}
 
 -- THE COMMAND READER
@@ -42,24 +41,54 @@ body-length (Dump q) = refl
 body-length Cancel = refl
 body-length (Load q) = refl
 body-length (PoolStatistics i) = refl
+body-length (SymbolValue n) = refl
+body-length (DumpSymbol q) = refl
 
--- the data words are eleven
+tail-length : (k : Command) → length (tailWords k) ≡ 2
+tail-length (Dump q) = refl
+tail-length Cancel = refl
+tail-length (Load q) = refl
+tail-length (PoolStatistics i) = refl
+tail-length (SymbolValue n) = refl
+tail-length (DumpSymbol q) = refl
+
+-- the words beside a command are twelve
 module _ (p : List ℕ) where
-  beside-length : (k : Command) → length (wordsBeside p k) ≡ 11
+  beside-length : (k : Command) → length (wordsBeside p k) ≡ 12
+  unfolding wordsAt
   beside-length (Dump q) = refl
   beside-length Cancel = refl
-  beside-length (Load q) = words-at-length 11 p 16
+  beside-length (Load q) = refl
   beside-length (PoolStatistics i) = refl
+  beside-length (SymbolValue n) = refl
+  beside-length (DumpSymbol q) = refl
+
+-- a block of 21 words, written from its start by 7, 12 and 2
+module _ (b h ws t : List ℕ) (n : length b ≡ 21) (seven : length h ≡ 7) (twelve : length ws ≡ 12) (two : length t ≡ 2) where
+  -- a part put back is a write at its start
+  part-back : putMid 7 12 (splice b 0 h) ws ≡ splice (splice b 0 h) 7 ws
+  unfolding splice
+  part-back = rw (twelve, drop-drop)
+
+  two-runs : putMid 7 12 (splice b 0 h) ws ≡ splice b 0 (h ++ ws)
+  two-runs = part-back ∙ splice-splice b h ws 0 7 (omega arith) (omega arith)
+
+  three-runs : (b₂ : List ℕ) → (19 + length t ≤ length (putMid 7 12 (splice b 0 h) ws) → b₂ ≡ splice (putMid 7 12 (splice b 0 h) ws) 19 t) → b₂ ≡ h ++ ws ++ t
+  three-runs b₂ e =
+      let most : length (h ++ ws) ≡ 19 = simp length-append (omega arith) in
+      let all : length (h ++ ws ++ t) ≡ 21 = simp length-append (omega arith) in
+      let long = ap length two-runs ∙ splice-length b 0 (h ++ ws) (omega arith) in
+      e (omega arith) ∙ rw two-runs (splice-splice b (h ++ ws) t 0 19 (omega arith) (omega arith) ∙ splice-all b (h ++ ws ++ t) (omega arith))
 
 module _ (p b : List ℕ) where
-  pub command-other : length b ≢ 18 → (3 ≡ lgReadCommand p b .number) × (b ≡ lgReadCommand p b .block)
+  pub command-other : length b ≢ 21 → (3 ≡ lgReadCommand p b .number) × (b ≡ lgReadCommand p b .block)
   unfolding lgReadCommand
-  command-other n = rw (ne-eqb (length b) 18 n) (refl, refl)
+  command-other n = rw (ne-eqb (length b) 21 n) (refl, refl)
 
-  module _ (n : length b ≡ 18) (d : Reading) (ed : d ≡ readCommand p .reading) where
+  module _ (n : length b ≡ 21) (d : Reading) (ed : d ≡ readCommand p .reading) where
     pub command-unread : (r : Refusal) → d ≡ Unread r → (m : ℕ) → m ≡ number r → (m ≡ lgReadCommand p b .number) × (b ≡ lgReadCommand p b .block)
     unfolding lgReadCommand
-    command-unread r er m em = rw (eq-eqb (length b) 18 n, ← ed, er) (em, refl)
+    command-unread r er m em = rw (eq-eqb (length b) 21 n, ← ed, er) (em, refl)
 
     -- the words beside the fields
     words-beside : (f : Telecommand) → d ≡ Read f → readCommand p .words ≡ wordsBeside p (f .command)
@@ -67,21 +96,23 @@ module _ (p b : List ℕ) where
 
     pub command-done : (f : Telecommand) → d ≡ Read f → (h : List ℕ) → h ≡ headWords f
         → (b₁ : List ℕ) → (0 + length h ≤ length b → b₁ ≡ splice b 0 h)
-        → (part : List ℕ) → (11 ≤ length (take 11 (drop 7 b₁)) → part ≡ splice (take 11 (drop 7 b₁)) 0 (wordsBeside p (f .command)))
-        → (0 ≡ lgReadCommand p b .number) × (putMid 7 11 b₁ part ≡ lgReadCommand p b .block)
+        → (part : List ℕ) → (12 ≤ length (take 12 (drop 7 b₁)) → part ≡ splice (take 12 (drop 7 b₁)) 0 (wordsBeside p (f .command)))
+        → (t : List ℕ) → t ≡ tailWords (f .command)
+        → (b₂ : List ℕ) → (19 + length t ≤ length (putMid 7 12 b₁ part) → b₂ ≡ splice (putMid 7 12 b₁ part) 19 t)
+        → (0 ≡ lgReadCommand p b .number) × (b₂ ≡ lgReadCommand p b .block)
     unfolding lgReadCommand
-    command-done f ef h eh b₁ e₁ part e₂ =
+    command-done f ef h eh b₁ e₁ part e₂ t et b₂ e₃ =
         let k = body-length (f .command) in
         let seven : length h ≡ 7 = rw eh (omega arith) in
         let one = e₁ (omega arith) in
-        let same : length b₁ ≡ 18 = ap length one ∙ splice-length b 0 h (omega arith) ∙ n in
-        let room : length (take 11 (drop 7 b₁)) ≡ 11 = simp (length-take, length-drop) (omega arith) in
-        let eleven = beside-length p (f .command) in
-        let two : part ≡ wordsBeside p (f .command) = e₂ (omega arith) ∙ splice-all (take 11 (drop 7 b₁)) (wordsBeside p (f .command)) (eleven ∙ sym room) in
-        let front : take 7 b₁ ≡ h = ap (take 7) one ∙ rw (← seven) (splice-front b h) in
-        let most : length (drop 7 b₁) ≤ 11 = simp length-drop (omega arith) in
-        let rest : drop 11 (drop 7 b₁) ≡ [] = drop-of-length-le (drop 7 b₁) most in
-        rw (eq-eqb (length b) 18 n, ← ed, ef) (refl, rw (two, front, rest, eh, words-beside f ef, append-nil))
+        let same : length b₁ ≡ 21 = ap length one ∙ splice-length b 0 h (omega arith) ∙ n in
+        let room : length (take 12 (drop 7 b₁)) ≡ 12 = simp (length-take, length-drop) (omega arith) in
+        let twelve = beside-length p (f .command) in
+        let two : part ≡ wordsBeside p (f .command) = e₂ (omega arith) ∙ splice-all (take 12 (drop 7 b₁)) (wordsBeside p (f .command)) (twelve ∙ sym room) in
+        let m = tail-length (f .command) in
+        let last : length t ≡ 2 = rw et (omega arith) in
+        let three : b₂ ≡ h ++ wordsBeside p (f .command) ++ t = three-runs b h (wordsBeside p (f .command)) t n seven twelve last b₂ (rw (one, two) at e₃) in
+        rw (eq-eqb (length b) 21 n, ← ed, ef) (refl, rw (three, eh, et, words-beside f ef))
 
 -- THE DUMP PACKET READER
 

@@ -1,6 +1,6 @@
 -- What the command writer and the two readers of the C interface (c/leatgarnet.h) leave: the number, the lent block or buffer, and the bytes.
 use mathlib.Core.Bool.{cond}
-use mathlib.Core.List.{List, _++_}
+use mathlib.Core.List.{List}
 use Prim.Native.Nat.{ℕ}
 use lib.Dec.{eqb}
 use lib.ListN.{length}
@@ -12,10 +12,10 @@ use Rattle.rules.specs.declared.PacketReading.{PacketReading}
 use Rattle.rules.specs.declared.PacketReading.the-variants.{NoPacket, Packet}
 use Rattle.rules.specs.declared.Reading.{Reading}
 use Rattle.rules.specs.declared.Reading.the-variants.{Unread, Read}
-use Rattle.ground_blocks.specs.Fields.{headerIn, commandIn, dataIn, headWords, fieldWords}
+use Rattle.ground_blocks.specs.Fields.{headerIn, commandIn, dataIn, blockWords, fieldWords}
 
 abbrev pub commandWords : ℕ
-commandWords = 18
+commandWords = 21
 
 abbrev pub packetWords : ℕ
 packetWords = 8
@@ -45,10 +45,10 @@ pub record ReadLeft : Type 0 where
   pub number : ℕ
   pub block : List ℕ
 
--- the eleven data words come last
+-- the command's own words, the twelve beside it, and its last two
 abbrev pub commandBlock : List ℕ → Reading → List ℕ → List ℕ
 commandBlock b (Unread r) ws = b
-commandBlock b (Read f) ws = headWords f ++ ws
+commandBlock b (Read f) ws = blockWords f ws
 
 -- a block of another length: 3, before all else
 unfoldable pub lgReadCommand : List ℕ → List ℕ → ReadLeft

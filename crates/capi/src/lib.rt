@@ -17,6 +17,7 @@ use ground_blocks::command_in;
 use ground_blocks::field_words;
 use ground_blocks::head_words;
 use ground_blocks::header_in;
+use ground_blocks::tail_words;
 use lent_command::answered;
 use lent_command::command;
 use lent_slot::slot;
@@ -58,13 +59,14 @@ pub extern "C" fn lg_slot(
 pub extern "C" fn lg_command(
     state: &mut [u32],
     packet: &[u8],
+    symbols: &[u8],
     image: &mut [u32],
     reply: &mut [u8],
     bytes: &mut u32,
 ) -> u32
-    ensures { λ n. ⌜ (n ≡ lgCommand (now (state .entry)) (now (packet .entry)) (now (image .entry)) (now (reply .entry)) .number) × (now (state .exit) ≡ lgCommand (now (state .entry)) (now (packet .entry)) (now (image .entry)) (now (reply .entry)) .state) × (now (image .exit) ≡ lgCommand (now (state .entry)) (now (packet .entry)) (now (image .entry)) (now (reply .entry)) .image) × (now (reply .exit) ≡ lgCommand (now (state .entry)) (now (packet .entry)) (now (image .entry)) (now (reply .entry)) .buffer) × (now (bytes .exit) ≡ lgCommand (now (state .entry)) (now (packet .entry)) (now (image .entry)) (now (reply .entry)) .bytes) ⌝ }
+    ensures { λ n. ⌜ (n ≡ lgCommand (now (state .entry)) (record { packet = now (packet .entry); symbols = now (symbols .entry); image = now (image .entry); reply = now (reply .entry) }) .number) × (now (state .exit) ≡ lgCommand (now (state .entry)) (record { packet = now (packet .entry); symbols = now (symbols .entry); image = now (image .entry); reply = now (reply .entry) }) .state) × (now (image .exit) ≡ lgCommand (now (state .entry)) (record { packet = now (packet .entry); symbols = now (symbols .entry); image = now (image .entry); reply = now (reply .entry) }) .image) × (now (reply .exit) ≡ lgCommand (now (state .entry)) (record { packet = now (packet .entry); symbols = now (symbols .entry); image = now (image .entry); reply = now (reply .entry) }) .buffer) × (now (bytes .exit) ≡ lgCommand (now (state .entry)) (record { packet = now (packet .entry); symbols = now (symbols .entry); image = now (image .entry); reply = now (reply .entry) }) .bytes) ⌝ }
 {
-    command(state, packet, image, reply, bytes)
+    command(state, packet, symbols, image, reply, bytes)
 }
 
 #[no_mangle]
@@ -73,16 +75,26 @@ pub extern "C" fn lg_commands(
     bytes: &[u8],
     starts: &[u32],
     lengths: &[u32],
+    symbols: &[u8],
     image: &mut [u32],
     replies: &mut [u8],
     answers: &mut [ItemAnswer],
 ) -> u32
     ensures { λ n. ⌜
-        (n ≡ verdictNumber (lgCommands (now (state .entry)) (lends (now (bytes .entry)) (now (starts .entry)) (now (lengths .entry)) (now (image .entry)) (now (replies .entry))) (length (now (answers .entry))) .verdict))
-        × LeftAs (lgCommands (now (state .entry)) (lends (now (bytes .entry)) (now (starts .entry)) (now (lengths .entry)) (now (image .entry)) (now (replies .entry))) (length (now (answers .entry)))) (now (state .exit)) (now (image .exit)) (now (replies .exit))
-        × (now (answers .exit) ≡ filled (now (answers .entry)) (lgCommands (now (state .entry)) (lends (now (bytes .entry)) (now (starts .entry)) (now (lengths .entry)) (now (image .entry)) (now (replies .entry))) (length (now (answers .entry))) .left .answers)) ⌝ }
+        (n ≡ verdictNumber (lgCommands (now (state .entry)) (lends (now (bytes .entry)) (now (starts .entry)) (now (lengths .entry)) (now (symbols .entry)) (now (image .entry)) (now (replies .entry))) (length (now (answers .entry))) .verdict))
+        × LeftAs (lgCommands (now (state .entry)) (lends (now (bytes .entry)) (now (starts .entry)) (now (lengths .entry)) (now (symbols .entry)) (now (image .entry)) (now (replies .entry))) (length (now (answers .entry)))) (now (state .exit)) (now (image .exit)) (now (replies .exit))
+        × (now (answers .exit) ≡ filled (now (answers .entry)) (lgCommands (now (state .entry)) (lends (now (bytes .entry)) (now (starts .entry)) (now (lengths .entry)) (now (symbols .entry)) (now (image .entry)) (now (replies .entry))) (length (now (answers .entry))) .left .answers)) ⌝ }
 {
-    let a = answered(state, bytes, starts, lengths, image, replies, answers.len());
+    let a = answered(
+        state,
+        bytes,
+        starts,
+        lengths,
+        symbols,
+        image,
+        replies,
+        answers.len(),
+    );
     put_records(answers, a);
     number_of(a)
 }
@@ -94,7 +106,7 @@ pub extern "C" fn lg_write_command(command: &[u32], buffer: &mut [u8], bytes: &m
     ensures { λ n. ⌜ (n ≡ lgWriteCommand (now (command .entry)) (now (buffer .entry)) .number) × (now (buffer .exit) ≡ lgWriteCommand (now (command .entry)) (now (buffer .entry)) .buffer) × (now (bytes .exit) ≡ lgWriteCommand (now (command .entry)) (now (buffer .entry)) .bytes) ⌝ }
 {
     *bytes = 0;
-    if command.len() != 18 {
+    if command.len() != 21 {
         return 3;
     }
     let decoded = command_in(command);
@@ -104,7 +116,7 @@ pub extern "C" fn lg_write_command(command: &[u32], buffer: &mut [u8], bytes: &m
         }
         Decoded::Known(k) => {
             let h = header_in(command);
-            return hand_over(write_packet(h, k, &command[7..18], buffer), bytes);
+            return hand_over(write_packet(h, k, &command[7..19], buffer), bytes);
         }
     }
 }
@@ -115,7 +127,7 @@ pub extern "C" fn lg_write_command(command: &[u32], buffer: &mut [u8], bytes: &m
 pub extern "C" fn lg_read_command(packet: &[u8], command: &mut [u32]) -> u32
     ensures { λ n. ⌜ (n ≡ lgReadCommand (now (packet .entry)) (now (command .entry)) .number) × (now (command .exit) ≡ lgReadCommand (now (packet .entry)) (now (command .entry)) .block) ⌝ }
 {
-    if command.len() != 18 {
+    if command.len() != 21 {
         return 3;
     }
     let reading = reading_of(packet);
@@ -127,7 +139,9 @@ pub extern "C" fn lg_read_command(packet: &[u8], command: &mut [u32]) -> u32
             let head = head_words(f);
             put_run(command, 0, &head);
             let k = f.command;
-            put_beside(&mut command[7..18], packet, k);
+            put_beside(&mut command[7..19], packet, k);
+            let tail = tail_words(k);
+            put_run(command, 19, &tail);
             return 0;
         }
     }

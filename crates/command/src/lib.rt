@@ -7,17 +7,19 @@ ghost use lib.ListN.{length};
 ghost use Rattle.rules.specs.Regions.{imageLength};
 ghost use Rattle.rules.specs.States.{poolAt, goodState};
 ghost use Rattle.rules.specs.Commands.{returned, setContext, changed, acceptedMore, commandCall};
-ghost use Rattle.rules.specs.declared.Reading.the-variants.{Read};
-ghost use Rattle.decide.specs.Decisions.{find, byReading, decision, stateAfter};
+ghost use Rattle.decide.specs.declared.Opened.the-variants.{Open};
+ghost use Rattle.decide.specs.Decisions.{find, byOrder, decision, stateAfter};
 use decide::Decision;
+use decide::Opened;
+use decide::Order;
+use decide::Told;
 use decide::answer_of;
 use decide::cancel;
 use decide::dump;
 use decide::is_counted;
 use decide::load;
-use decide::opened;
+use decide::opened_by;
 use decide::pool_statistics;
-use decide::range_of;
 use decide::write_out;
 use places::first_idle;
 use places::first_with;
@@ -25,15 +27,15 @@ use places::set_context;
 use regions::Found;
 use regions::find_region;
 use rules::Address;
-use rules::Command;
 use rules::Context;
 use rules::Header;
 use rules::Range;
-use rules::Reading;
+use rules::Refusal;
 use rules::Returned;
 use rules::State;
-use rules::Telecommand;
+use rules::Task;
 use state::good_words;
+use symbols::Known;
 
 fn find(s: State, a: Range) -> Found
     ensures { λ f. ⌜ (goodState s ≡ true → f ≡ find s a) ⌝ }
@@ -57,24 +59,19 @@ fn pool_at(pools: [Range; 2], i: u16) -> Range
     }
 }
 
-// The decision on a command of a good state, by the facts that this command asks for.
-fn by_command(s: State, f: Telecommand, image: &[u32]) -> Decision
-    ensures { λ d. ⌜ (goodState s ≡ true → d ≡ byReading s (now (image .entry)) (Read f)) ⌝ }
+// The decision on a task in a good state, by the facts that this task asks for.
+fn by_task(s: State, o: Order, image: &[u32]) -> Decision
+    ensures { λ d. ⌜ (goodState s ≡ true → d ≡ byOrder s (now (image .entry)) (Open o)) ⌝ }
 {
-    let k = f.command;
-    let t = f.header.transaction;
+    let k = o.task;
+    let t = o.transaction;
     let ps = s.places;
     match k {
-        Command::Dump(q) => dump(
-            t,
-            q,
-            find(s, range_of(q)),
-            first_with(ps, t, 4),
-            first_idle(ps),
-        ),
-        Command::Cancel => cancel(first_with(ps, t, 4)),
-        Command::Load(q) => load(q, find(s, range_of(q))),
-        Command::PoolStatistics(i) => {
+        Task::Nothing => Decision::Refuse(Refusal::UnknownCode),
+        Task::DumpRange(a) => dump(t, a, find(s, a), first_with(ps, t, 4), first_idle(ps)),
+        Task::CancelDump => cancel(first_with(ps, t, 4)),
+        Task::LoadRange(a) => load(a, find(s, a)),
+        Task::CountPool(i) => {
             let pools = s.pools;
             let pool = pool_at(pools, i);
             let header = Header {
@@ -84,17 +81,40 @@ fn by_command(s: State, f: Telecommand, image: &[u32]) -> Decision
             };
             pool_statistics(header, i, pool, find(s, pool), image)
         }
+        Task::TellValue(v) => {
+            let header = Header {
+                count: s.values,
+                unit: s.unit,
+                transaction: t,
+            };
+            Decision::Tell(Told { header, value: v })
+        }
     }
 }
 
 // The decision on a packet: what the call would do. `good` is what the good state's test answers.
-fn decide(s: State, good: usize, packet: &[u8], image: &[u32], reply: usize) -> Decision
-    ensures { λ d. ⌜ ((bytes : List ℕ) → good ≡ cond (goodState s) (imageLength (s .regions) (s .count)) 0 → length bytes ≡ reply → d ≡ decision s (record { packet = now (packet .entry); image = now (image .entry); reply = bytes })) ⌝ }
+fn decide(
+    s: State,
+    good: usize,
+    packet: &[u8],
+    symbols: &[u8],
+    image: &[u32],
+    reply: usize,
+) -> Decision
+    ensures { λ d. ⌜ ((bytes : List ℕ) → good ≡ cond (goodState s) (imageLength (s .regions) (s .count)) 0 → length bytes ≡ reply → d ≡ decision s (record { packet = now (packet .entry); symbols = now (symbols .entry); image = now (image .entry); reply = bytes })) ⌝ }
 {
-    let opened = opened(good, image.len(), reply, packet, s.unit);
+    let opened = opened_by(
+        good,
+        image.len(),
+        reply,
+        packet,
+        symbols,
+        Known::Untested,
+        s.unit,
+    );
     match opened {
-        Reading::Unread(r) => Decision::Refuse(r),
-        Reading::Read(f) => by_command(s, f, image),
+        Opened::Shut(r) => Decision::Refuse(r),
+        Opened::Open(o) => by_task(s, o, image),
     }
 }
 
@@ -108,7 +128,7 @@ fn raised(count: u16, n: u32) -> u16
 
 // One more command accepted, with place i changed.
 fn with_context(s: State, i: usize, c: Context) -> State
-    ensures { λ r. ⌜ r ≡ changed s (setContext (s .places) i c) (s .replies) (acceptedMore s) (s .refused) ⌝ }
+    ensures { λ r. ⌜ r ≡ changed s (setContext (s .places) i c) (s .replies) (s .values) (acceptedMore s) (s .refused) ⌝ }
 {
     let places = s.places;
     let after = set_context(places, i, c);
@@ -144,17 +164,28 @@ fn applied(s: State, d: Decision) -> State
             state.accepted = raised(s.accepted, 65536);
             state
         }
+        Decision::Tell(_) => {
+            state.values = raised(s.values, 16384);
+            state.accepted = raised(s.accepted, 65536);
+            state
+        }
     }
 }
 
 // The command call.
-pub fn command(s: State, packet: &[u8], image: &mut [u32], reply: &mut [u8]) -> Returned
+pub fn command(
+    s: State,
+    packet: &[u8],
+    symbols: &[u8],
+    image: &mut [u32],
+    reply: &mut [u8],
+) -> Returned
     ensures { λ r. ⌜
-        (r ≡ returned (commandCall s (record { packet = now (packet .entry); image = now (image .entry); reply = now (reply .entry) })))
-        × (now (image .exit) ≡ commandCall s (record { packet = now (packet .entry); image = now (image .entry); reply = now (reply .entry) }) .image)
-        × (now (reply .exit) ≡ commandCall s (record { packet = now (packet .entry); image = now (image .entry); reply = now (reply .entry) }) .buffer) ⌝ }
+        (r ≡ returned (commandCall s (record { packet = now (packet .entry); symbols = now (symbols .entry); image = now (image .entry); reply = now (reply .entry) })))
+        × (now (image .exit) ≡ commandCall s (record { packet = now (packet .entry); symbols = now (symbols .entry); image = now (image .entry); reply = now (reply .entry) }) .image)
+        × (now (reply .exit) ≡ commandCall s (record { packet = now (packet .entry); symbols = now (symbols .entry); image = now (image .entry); reply = now (reply .entry) }) .buffer) ⌝ }
 {
-    let d = decide(s, good_words(s), packet, image, reply.len());
+    let d = decide(s, good_words(s), packet, symbols, image, reply.len());
     write_out(d, packet, image, reply);
     let answer = answer_of(d);
     let state = applied(s, d);

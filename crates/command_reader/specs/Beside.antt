@@ -1,4 +1,4 @@
--- The data words beside the command reader's answer.
+-- The words beside the command reader's answer.
 use mathlib.Core.List.{List}
 use Prim.Native.Nat.{ℕ}
 use Rattle.rules.specs.Ground.{noWords, wordsBeside}

@@ -3,12 +3,11 @@
 use mathlib.Core.Path.{_≡_, refl, sym, ap, ap₂, _∙_}
 use mathlib.Core.Bool.{Bool, true, false, _&&_, not}
 use mathlib.Core.List.{List, [], _∷_, _++_}
-use Prim.Native.Nat.{ℕ, zero, suc, _+_, _*_, _-_, _/_, _%_, _≤_, _<_}
+use Prim.Native.Nat.{ℕ, _+_, _*_, _-_, _/_, _%_, _≤_, _<_}
 use native.Mathlib.Omega.{arith}
 use lib.Bits.{bitXor, xor-zero-l}
 use lib.Dec.{leb, ltb}
-use lib.ListN.{length, getD, set, take}
-use lib.Seq.{set-append-left}
+use lib.ListN.{length, set}
 use borrow.Author.Tests.{leb-true, lt-ltb, le-ltb, not-true, not-false}
 use Rattle.lists.specs.Splice.{splice}
 use Rattle.lists.proofs.Runs.{sets-splice, splice-splice, splice-before}
@@ -24,7 +23,7 @@ use Rattle.rules.specs.Results.{lowest}
 use Rattle.rules.specs.Ground.{headerRules, writerRows, writeCommand}
 use Rattle.rules.specs.declared.Answer.the-variants.{Refused, Done}
 use Rattle.rules.specs.declared.Command.{Command}
-use Rattle.rules.specs.declared.Command.the-variants.{Dump, Cancel, Load, PoolStatistics}
+use Rattle.rules.specs.declared.Command.the-variants.{Dump, Cancel, Load, PoolStatistics, SymbolValue, DumpSymbol}
 use Rattle.rules.specs.declared.Header.{Header}
 use Rattle.rules.specs.declared.Request.{Request}
 use Rattle.rules.specs.declared.Refusal.the-variants.{BufferLength, BadField}
@@ -120,11 +119,13 @@ header-fits h e =
       count = leb-true _ _ (and-right (u && t) c e);
     }
 
-length-bounds : (k : Command) → (10 ≤ packetLength k) × (packetLength k ≤ 60)
+length-bounds : (k : Command) → (10 ≤ packetLength k) × (packetLength k ≤ 68)
 length-bounds (Dump q) = (omega arith, omega arith)
 length-bounds Cancel = (omega arith, omega arith)
 length-bounds (Load q) = (omega arith, omega arith)
 length-bounds (PoolStatistics i) = (omega arith, omega arith)
+length-bounds (SymbolValue n) = (omega arith, omega arith)
+length-bounds (DumpSymbol q) = (omega arith, omega arith)
 
 -- unit and transaction fit a halfword
 pub rest-fits : (h : Header) (k : Command) → (headerRules h && fieldRules k) ≡ true → (u : ℕ) → u ≡ h .unit → 4096 * u + h .transaction < 65536
@@ -143,7 +144,7 @@ module _ (h : Header) (k : Command) (a b : Bool) (ea : a ≡ headerRules h) (eb 
   rules-hold r = sym both ∙ not-false (a && b) r
 
 module _ (h : Header) (k : Command) (n : ℕ) (en : n ≡ packetLength k) where
-  pub start-fits : (headerRules h && fieldRules k) ≡ true → (h .count ≤ 16383) × (7 ≤ n) × (n ≤ 60) × (10 ≤ n)
+  pub start-fits : (headerRules h && fieldRules k) ≡ true → (h .count ≤ 16383) × (7 ≤ n) × (n ≤ 68) × (10 ≤ n)
   start-fits r =
       let l = length-bounds k in
       let f = header-fits h (and-left (headerRules h) (fieldRules k) r) in

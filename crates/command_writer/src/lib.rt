@@ -1,15 +1,16 @@
 // The command writer: 3, 9, or the packet at the start of the buffer. Later bytes stay, and after a refusal all do.
 ghost use mathlib.Core.Path.{_≡_};
 ghost use mathlib.Core.List.{_++_};
-ghost use Prim.Native.Nat.{_≤_, _<_};
+ghost use Prim.Native.Nat.{_*_, _≤_, _<_};
 ghost use lib.Bits.{bitXor};
-ghost use lib.ListN.{length, getD, set};
+ghost use lib.ListN.{length, getD, set, take, drop, replicate};
 ghost use Rattle.lists.specs.Splice.{splice};
 ghost use Rattle.wire.specs.Bytes.{be, wordBytes};
 ghost use Rattle.wire.specs.Xor.{xorAll};
-ghost use Rattle.rules.specs.Packets.{codeOf, packetLength, usedWords, requestBytes, bodyBytes};
+ghost use Rattle.rules.specs.Packets.{codeOf, packetLength, usedWords, nameBytes, nameField, requestBytes, bodyBytes};
 ghost use Rattle.rules.specs.Ground.{headerRules, writeCommand};
 ghost use Rattle.command_writer.specs.Start.{startBytes};
+ghost use Rattle.rules.specs.declared.Command.the-variants.{DumpSymbol};
 use packet::field_rules;
 use packet::packet_length;
 use rules::Answer;
@@ -17,6 +18,7 @@ use rules::Command;
 use rules::Header;
 use rules::Refusal;
 use rules::Request;
+use rules::SymbolRequest;
 use rules::Written;
 use wire::put_words;
 use wire::wide32;
@@ -30,6 +32,8 @@ fn code_of(k: Command) -> u8
         Command::Cancel => 1,
         Command::Load(_) => 4,
         Command::PoolStatistics(_) => 7,
+        Command::SymbolValue(_) => 8,
+        Command::DumpSymbol(_) => 9,
     }
 }
 
@@ -42,7 +46,7 @@ fn header_rules(h: Header) -> bool
 // The first two words of a packet of `n` bytes. The check byte makes the exclusive or of all bytes FF hex, where the bytes after these
 // words come to that of `rest`.
 fn put_start(b: &mut [u8], count: u16, code: u8, n: usize, rest: u32)
-    requires { ⌜ (count ≤ 16383) × (7 ≤ n) × (n ≤ 60) × (8 ≤ length (now b)) ⌝ }
+    requires { ⌜ (count ≤ 16383) × (7 ≤ n) × (n ≤ 68) × (8 ≤ length (now b)) ⌝ }
     ensures { λ _. ⌜ now (b .exit) ≡ splice (now (b .entry)) 0 (set (startBytes count code n) 7 (bitXor (bitXor (xorAll (startBytes count code n)) (xorAll (be 4 rest))) 255)) ⌝ }
 {
     // type 1, second-header flag 1, APID 1604; sequence flags 3
@@ -118,6 +122,72 @@ fn put_data(b: &mut [u8], size: u16, words: &[u32]) -> u32
     all
 }
 
+// A word of which only the first n bytes are kept.
+fn kept(w: u32, n: usize) -> u32
+    ensures { λ r. ⌜ be 4 r ≡ take 4 (take n (be 4 w) ++ replicate 4 0) ⌝ }
+{
+    match n {
+        0 => 0,
+        1 => w / 16777216 * 16777216,
+        2 => w / 65536 * 65536,
+        3 => w / 256 * 256,
+        _ => w,
+    }
+}
+
+// Word `i` of a name of n bytes as it is written: bytes beyond its size are 0, and so are those that were not given.
+fn name_word(words: &[u32], n: u8, i: usize) -> u32
+    requires { ⌜ i < 12 ⌝ }
+    ensures { λ r. ⌜ be 4 r ≡ take 4 (drop (4 * i) (nameBytes n (now (words .entry)))) ⌝ }
+{
+    if words.len() <= i {
+        return 0;
+    }
+    let size = n as usize;
+    if 4 * i + 4 <= size {
+        return words[i];
+    }
+    if size <= 4 * i {
+        return 0;
+    }
+    kept(words[i], size - 4 * i)
+}
+
+// Unit and transaction, and the name of a symbol in its field of twelve words. The one test is as in put_data.
+fn put_name(b: &mut [u8], id: u32, n: u8, words: &[u32]) -> u32
+    requires { ⌜ (id < 65536) × (60 ≤ length (now b)) ⌝ }
+    ensures { λ r. ⌜ (now (b .exit) ≡ splice (now (b .entry)) 8 (be 2 id ++ nameField n (now (words .entry)))) × (xorAll (be 4 r) ≡ xorAll (be 2 id ++ nameField n (now (words .entry)))) ⌝ }
+{
+    if b.len() < 60 {
+        return 0;
+    }
+    let third = id * 65536 + wide32(n) * 256;
+    let first = [third];
+    put_words(b, 8, &first);
+    let mut all: u32 = third;
+    let mut i = 0;
+    while i < 12 {
+        let w = name_word(words, n, i);
+        let run = [w];
+        put_words(b, 12 + 4 * i, &run);
+        all = all ^ w;
+        i += 1;
+    }
+    all
+}
+
+fn put_symbol_request(b: &mut [u8], id: u32, q: SymbolRequest, words: &[u32]) -> u32
+    requires { ⌜ (id < 65536) × (68 ≤ length (now b)) ⌝ }
+    ensures { λ r. ⌜ (now (b .exit) ≡ splice (now (b .entry)) 8 (be 2 id ++ bodyBytes (DumpSymbol q) (now (words .entry)))) × (xorAll (be 4 r) ≡ xorAll (be 2 id ++ bodyBytes (DumpSymbol q) (now (words .entry)))) ⌝ }
+{
+    let name = put_name(b, id, q.name, words);
+    let offset = q.offset;
+    let last = q.size as u32 * 65536;
+    let run = [offset, last];
+    put_words(b, 60, &run);
+    name ^ offset ^ last
+}
+
 // The bytes from unit and transaction on. The answer is a word whose bytes have their exclusive or.
 fn put_rest(b: &mut [u8], id: u32, k: Command, words: &[u32]) -> u32
     requires { ⌜ (id < 65536) × (packetLength k ≤ length (now b)) ⌝ }
@@ -131,10 +201,12 @@ fn put_rest(b: &mut [u8], id: u32, k: Command, words: &[u32]) -> u32
             request ^ put_data(b, q.size, words)
         }
         Command::PoolStatistics(i) => put_pool(b, id, i),
+        Command::SymbolValue(n) => put_name(b, id, n, words),
+        Command::DumpSymbol(q) => put_symbol_request(b, id, q, words),
     }
 }
 
-// Writes a command's packet. Of `words`, which are a load's, those beyond its size are not read, and one that is not there is 0.
+// Writes a command's packet. Of `words`, which are a load's or hold a name, what is beyond its size is not written, and one that is not there is 0.
 pub fn write_packet(h: Header, k: Command, words: &[u32], buffer: &mut [u8]) -> Answer
     ensures { λ r. ⌜ (r ≡ writeCommand h k (now (words .entry)) (now (buffer .entry)) .answer) × (now (buffer .exit) ≡ writeCommand h k (now (words .entry)) (now (buffer .entry)) .buffer) ⌝ }
 {
@@ -151,8 +223,8 @@ pub fn write_packet(h: Header, k: Command, words: &[u32], buffer: &mut [u8]) -> 
     Answer::Done(Written { length: n })
 }
 
-// The same of eleven words.
-pub fn write_command(h: Header, k: Command, words: &[u32; 11], buffer: &mut [u8]) -> Answer
+// The same of twelve words.
+pub fn write_command(h: Header, k: Command, words: &[u32; 12], buffer: &mut [u8]) -> Answer
     ensures { λ r. ⌜ (r ≡ writeCommand h k (now (words .entry)) (now (buffer .entry)) .answer) × (now (buffer .exit) ≡ writeCommand h k (now (words .entry)) (now (buffer .entry)) .buffer) ⌝ }
 {
     write_packet(h, k, words, buffer)

@@ -36,11 +36,11 @@ words-stored p image at n h =
     (λ f. let l = leb-false (at + n) (length image) f in rw (e, f) (h .1 (λ j k. omega arith))))
     (λ e. let l = leb-false n 11 e in rw e (h .1 (λ j k. omega arith)))
 
--- a reply
-pub reply-put : (reply v : List ℕ) {r : List ℕ} → (32 ≤ length reply → r ≡ splice reply 0 v) × (length reply < 32 → r ≡ reply)
-    → r ≡ cond (leb 32 (length reply)) (splice reply 0 v) reply
-reply-put reply v h =
-    either (leb 32 (length reply)) (λ e. rw e (h .0 (leb-true _ _ e))) (λ e. rw e (h .1 (leb-false 32 (length reply) e)))
+-- a reply of n bytes
+pub reply-put : (n : ℕ) (reply v : List ℕ) {r : List ℕ} → (n ≤ length reply → r ≡ splice reply 0 v) × (length reply < n → r ≡ reply)
+    → r ≡ cond (leb n (length reply)) (splice reply 0 v) reply
+reply-put n reply v h =
+    either (leb n (length reply)) (λ e. rw e (h .0 (leb-true _ _ e))) (λ e. rw e (h .1 (leb-false n (length reply) e)))
 
 -- a packet
 pub packet-put : (f : DumpPacket) (ws buffer : List ℕ) {r : List ℕ}

@@ -8,37 +8,42 @@ use lib.ListN.{length, take, drop}
 use Rattle.lists.specs.Splice.{splice}
 use Rattle.rules.specs.Regions.{imageLength}
 use Rattle.rules.specs.States.{poolAt, goodState}
-use Rattle.rules.specs.Packets.{dataWords, requested, commandTransaction}
+use Rattle.rules.specs.Packets.{dataWords}
 use Rattle.rules.specs.Pools.{blocksOf}
 use Rattle.rules.specs.Results.{counted}
+use Rattle.rules.specs.Values.{valueBytes}
 use Rattle.rules.specs.Commands.{CommandArgs, Outcome, changed, acceptedMore, refusedMore, firstIdle, firstWith, setContext, newDump, commandCall}
 use Rattle.rules.specs.declared.ActiveDump.{ActiveDump}
 use Rattle.rules.specs.declared.Answer.{Answer}
 use Rattle.rules.specs.declared.Answer.the-variants.{Refused, Done}
-use Rattle.rules.specs.declared.Command.{Command}
-use Rattle.rules.specs.declared.Command.the-variants.{Dump, Cancel, Load, PoolStatistics}
 use Rattle.rules.specs.declared.Context.the-variants.{Idle, Busy}
 use Rattle.rules.specs.declared.Header.{Header}
 use Rattle.rules.specs.declared.Range.{Range}
 use Rattle.rules.specs.declared.Reading.{Reading}
 use Rattle.rules.specs.declared.Reading.the-variants.{Unread, Read}
 use Rattle.rules.specs.declared.Refusal.{Refusal}
-use Rattle.rules.specs.declared.Refusal.the-variants.{BadState, ImageLength, BufferLength, OutsideRegions, NoRight, TransactionBusy, PlacesBusy, NotBusy, PoolDamaged}
-use Rattle.rules.specs.declared.Request.{Request}
+use Rattle.rules.specs.declared.Refusal.the-variants.{BadState, ImageLength, BufferLength, UnknownCode, OutsideRegions, NoRight, TransactionBusy, PlacesBusy, NotBusy, PoolDamaged}
 use Rattle.rules.specs.declared.State.{State}
+use Rattle.rules.specs.declared.Task.{Task}
+use Rattle.rules.specs.declared.Task.the-variants.{Nothing, DumpRange, CancelDump, LoadRange, CountPool, TellValue}
 use Rattle.rules.specs.declared.Verdict.{Verdict}
 use Rattle.rules.specs.declared.Verdict.the-variants.{Accepted, Rejected}
 use Rattle.packet.specs.Frame.{frameOf}
+use Rattle.tasks.specs.Asked.{askedOf}
+use Rattle.tasks.specs.declared.Sought.{Sought}
+use Rattle.tasks.specs.declared.Sought.the-variants.{Denied, Asked}
 use Rattle.pool.specs.Answers.{walkedOf, figureBytes}
 use Rattle.pool.specs.declared.Walked.{Walked}
 use Rattle.pool.specs.declared.Walked.the-variants.{Damaged, Whole}
 use Rattle.regions.specs.Lookup.{findRegion}
 use Rattle.regions.specs.declared.Found.{Found}
 use Rattle.regions.specs.declared.Found.the-variants.{Missed, At}
+use Rattle.decide.specs.declared.Opened.{Opened}
+use Rattle.decide.specs.declared.Opened.the-variants.{Shut, Open}
 use Rattle.decide.specs.declared.Decision.{Decision}
-use Rattle.decide.specs.declared.Decision.the-variants.{Refuse, Dump as Placed, Cancel as Freed, Load as Stored, Reply}
+use Rattle.decide.specs.declared.Decision.the-variants.{Refuse, Dump as Placed, Cancel as Freed, Load as Stored, Reply, Tell}
 
--- NUMBERS 1 TO 9
+-- NUMBERS 1 TO 9, 17 AND 18
 
 -- 1 to 3, where a good state's image has `words` words and `words` is 0 of a state that is not good
 abbrev pub lentBy : ℕ → ℕ → ℕ → ℕ → Verdict
@@ -46,29 +51,38 @@ lentBy words image size buffer =
     cond (eqb words 0) (Rejected BadState)
     (cond (eqb image words) (cond (ltb buffer size) (Rejected BufferLength) Accepted) (Rejected ImageLength))
 
-abbrev pub openedAs : Verdict → List ℕ → ℕ → Reading
-openedAs (Rejected r) p unit = Unread r
-openedAs Accepted p unit = frameOf p unit
+abbrev pub ordered : ℕ → Sought → Opened
+ordered t (Denied r) = Shut r
+ordered t (Asked k) = Open (record { transaction = t; task = k })
 
-abbrev pub openedBy : ℕ → ℕ → ℕ → List ℕ → ℕ → Reading
-openedBy words image reply p unit = openedAs (lentBy words image 32 reply) p unit
+-- 9, 17, 18, or what a packet asks for that passed 4 to 8
+abbrev pub orderOf : List ℕ → List ℕ → Reading → Opened
+orderOf symbols p (Unread r) = Shut r
+orderOf symbols p (Read f) = ordered (f .header .transaction) (askedOf symbols p (f .command))
+
+abbrev pub openedAs : Verdict → List ℕ → List ℕ → ℕ → Opened
+openedAs (Rejected r) p symbols unit = Shut r
+openedAs Accepted p symbols unit = orderOf symbols p (frameOf p unit)
+
+abbrev pub openedBy : ℕ → ℕ → ℕ → List ℕ → List ℕ → ℕ → Opened
+openedBy words image reply p symbols unit = openedAs (lentBy words image 32 reply) p symbols unit
 
 -- NUMBERS 10 TO 15, by the facts that each command asks for
 
-abbrev pub decideDump : ℕ → Request → Found → ℕ → ℕ → Decision
-decideDump t q (Missed r) busy idle = Refuse r
-decideDump t q (At spot) busy idle =
+abbrev pub decideDump : ℕ → Range → Found → ℕ → ℕ → Decision
+decideDump t a (Missed r) busy idle = Refuse r
+decideDump t a (At spot) busy idle =
     cond (spot .dump)
     (cond (ltb busy 4) (Refuse TransactionBusy)
-    (cond (leb 4 idle) (Refuse PlacesBusy) (Placed (record { place = idle; dump = newDump t (requested q) }))))
+    (cond (leb 4 idle) (Refuse PlacesBusy) (Placed (record { place = idle; dump = newDump t a }))))
     (Refuse NoRight)
 
 abbrev pub decideCancel : ℕ → Decision
 decideCancel busy = cond (leb 4 busy) (Refuse NotBusy) (Freed (record { place = busy }))
 
-abbrev pub decideLoad : Request → Found → Decision
-decideLoad q (Missed r) = Refuse r
-decideLoad q (At spot) = cond (spot .load) (Stored (record { at = spot .index; words = q .size })) (Refuse NoRight)
+abbrev pub decideLoad : Range → Found → Decision
+decideLoad a (Missed r) = Refuse r
+decideLoad a (At spot) = cond (spot .load) (Stored (record { at = spot .index; words = a .words })) (Refuse NoRight)
 
 -- the words of the image from an index on, and none where they are not all there
 abbrev pub wordsFrom : List ℕ → ℕ → ℕ → List ℕ
@@ -94,20 +108,22 @@ goodWords s = cond (goodState s) (imageLength (s .regions) (s .count)) 0
 abbrev pub find : State → Range → Found
 find s a = findRegion (s .regions) (s .count) a
 
-abbrev pub byCommand : State → List ℕ → ℕ → Command → Decision
-byCommand s image t (Dump q) = decideDump t q (find s (requested q)) (firstWith t (s .places)) (firstIdle (s .places))
-byCommand s image t Cancel = decideCancel (firstWith t (s .places))
-byCommand s image t (Load q) = decideLoad q (find s (requested q))
-byCommand s image t (PoolStatistics i) =
+abbrev pub byTask : State → List ℕ → ℕ → Task → Decision
+byTask s image t Nothing = Refuse UnknownCode
+byTask s image t (DumpRange a) = decideDump t a (find s a) (firstWith t (s .places)) (firstIdle (s .places))
+byTask s image t CancelDump = decideCancel (firstWith t (s .places))
+byTask s image t (LoadRange a) = decideLoad a (find s a)
+byTask s image t (CountPool i) =
     decidePool (record { count = s .replies; unit = s .unit; transaction = t }) i (poolAt (s .pools) i) (find s (poolAt (s .pools) i)) image
+byTask s image t (TellValue v) = Tell (record { header = record { count = s .values; unit = s .unit; transaction = t }; value = v })
 
-abbrev pub byReading : State → List ℕ → Reading → Decision
-byReading s image (Unread r) = Refuse r
-byReading s image (Read f) = byCommand s image (f .header .transaction) (f .command)
+abbrev pub byOrder : State → List ℕ → Opened → Decision
+byOrder s image (Shut r) = Refuse r
+byOrder s image (Open o) = byTask s image (o .transaction) (o .task)
 
 unfoldable pub decision : State → CommandArgs → Decision
 decision s c =
-    byReading s (c .image) (openedBy (goodWords s) (length (c .image)) (length (c .reply)) (c .packet) (s .unit))
+    byOrder s (c .image) (openedBy (goodWords s) (length (c .image)) (length (c .reply)) (c .packet) (c .symbols) (s .unit))
 
 -- NUMBER AND EFFECT of every case
 
@@ -117,6 +133,7 @@ answerOf (Placed x) = Done (record { length = 0 })
 answerOf (Freed x) = Done (record { length = 0 })
 answerOf (Stored x) = Done (record { length = 0 })
 answerOf (Reply x) = Done (record { length = 32 })
+answerOf (Tell x) = Done (record { length = 12 })
 
 abbrev pub imageAfter : Decision → List ℕ → List ℕ → List ℕ
 imageAfter (Refuse r) p image = image
@@ -124,6 +141,7 @@ imageAfter (Placed x) p image = image
 imageAfter (Freed x) p image = image
 imageAfter (Stored x) p image = cond (leb (x .words) 11 && leb (x .at .0 + x .words) (length image)) (splice image (x .at .0) (take (x .words) (dataWords p))) image
 imageAfter (Reply x) p image = image
+imageAfter (Tell x) p image = image
 
 abbrev pub replyAfter : Decision → List ℕ → List ℕ
 replyAfter (Refuse r) reply = reply
@@ -134,13 +152,18 @@ replyAfter (Reply x) reply =
     cond (leb 32 (length reply))
     (splice reply 0 (figureBytes (x .header .count % 16384) (x .header .unit % 16) (x .header .transaction % 4096) (x .pool) (x .figures)))
     reply
+replyAfter (Tell x) reply =
+    cond (leb 12 (length reply))
+    (splice reply 0 (valueBytes (x .header .count % 16384) (x .header .unit % 16) (x .header .transaction % 4096) (x .value)))
+    reply
 
 abbrev pub stateAfter : State → Decision → State
-stateAfter s (Refuse r) = cond (counted r) (changed s (s .places) (s .replies) (s .accepted) (refusedMore s)) s
-stateAfter s (Placed x) = changed s (setContext (s .places) (x .place) (Busy (x .dump))) (s .replies) (acceptedMore s) (s .refused)
-stateAfter s (Freed x) = changed s (setContext (s .places) (x .place) Idle) (s .replies) (acceptedMore s) (s .refused)
-stateAfter s (Stored x) = changed s (s .places) (s .replies) (acceptedMore s) (s .refused)
-stateAfter s (Reply x) = changed s (s .places) ((s .replies + 1) % 16384) (acceptedMore s) (s .refused)
+stateAfter s (Refuse r) = cond (counted r) (changed s (s .places) (s .replies) (s .values) (s .accepted) (refusedMore s)) s
+stateAfter s (Placed x) = changed s (setContext (s .places) (x .place) (Busy (x .dump))) (s .replies) (s .values) (acceptedMore s) (s .refused)
+stateAfter s (Freed x) = changed s (setContext (s .places) (x .place) Idle) (s .replies) (s .values) (acceptedMore s) (s .refused)
+stateAfter s (Stored x) = changed s (s .places) (s .replies) (s .values) (acceptedMore s) (s .refused)
+stateAfter s (Reply x) = changed s (s .places) ((s .replies + 1) % 16384) (s .values) (acceptedMore s) (s .refused)
+stateAfter s (Tell x) = changed s (s .places) (s .replies) ((s .values + 1) % 16384) (acceptedMore s) (s .refused)
 
 abbrev pub carriedOut : State → CommandArgs → Decision → Outcome
 carriedOut s c d =

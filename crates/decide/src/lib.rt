@@ -1,9 +1,10 @@
 // The decisions of the command call and the slot call: pure functions on facts. A store of the state supplies the facts and carries the decision out.
 ghost use mathlib.Core.Path.{_≡_};
 ghost use Prim.Native.Nat.{_+_, _*_, _-_, _%_, min};
-ghost use Rattle.rules.specs.Packets.{requested};
 ghost use Rattle.rules.specs.Results.{counted};
-ghost use Rattle.decide.specs.Decisions.{lentBy, openedBy, decideDump, decideCancel, decideLoad, decidePool, answerOf, imageAfter, replyAfter, Decided};
+ghost use Rattle.symbols.specs.Answers.{KnownOf};
+ghost use Rattle.decide.specs.Decisions.{lentBy, openedBy, orderOf, decideDump, decideCancel, decideLoad, decidePool, answerOf, imageAfter, replyAfter, Decided};
+ghost use Rattle.rules.specs.declared.Reading.the-variants.{Read};
 ghost use Rattle.rules.specs.declared.Refusal.the-variants.{NothingToSend};
 ghost use Rattle.decide.specs.declared.Sending.the-variants.{Keep};
 ghost use Rattle.decide.specs.Sendings.{decideSend, sendAnswer, bufferAfter, SlotDecided};
@@ -11,7 +12,8 @@ use bulk::put_packet;
 use bulk::store_words;
 use bulk::word_after;
 use bulk::words_at;
-use packet::frame;
+use packet::fields;
+use packet::framed;
 use places::Seat;
 use places::after_packet;
 use pool::Figures;
@@ -28,12 +30,29 @@ use rules::Header;
 use rules::Range;
 use rules::Reading;
 use rules::Refusal;
-use rules::Request;
+use rules::Task;
+use rules::Telecommand;
 use rules::Verdict;
 use rules::WordIndex;
 use rules::Written;
+use symbols::Known;
+use tasks::Sought;
+use tasks::asked;
+use tasks::put_value;
 
 // WHAT CAN BE DECIDED
+
+// What a command asks for, under its transaction number.
+pub struct Order {
+    pub transaction: u16,
+    pub task: Task,
+}
+
+// What a command call is asked, or why it is refused before the state's facts are looked at.
+pub enum Opened {
+    Shut(Refusal),
+    Open(Order),
+}
 
 // A cancelled dump's place.
 pub struct Freed {
@@ -53,6 +72,12 @@ pub struct Report {
     pub figures: Figures,
 }
 
+// What a reply tells of a symbol.
+pub struct Told {
+    pub header: Header,
+    pub value: u32,
+}
+
 // What a command call does.
 pub enum Decision {
     Refuse(Refusal),
@@ -60,6 +85,7 @@ pub enum Decision {
     Cancel(Freed),
     Load(Stored),
     Reply(Report),
+    Tell(Told),
 }
 
 // A dump's next packet, where its words are, and what its place does then.
@@ -76,7 +102,7 @@ pub enum Sending {
     Send(Piece),
 }
 
-// NUMBERS 1 TO 9
+// NUMBERS 1 TO 9, 17 AND 18
 
 // Numbers 1 to 3 of a call that needs `size` bytes of its buffer. `words` is the length of a good state's image, and 0 where the state is not good.
 pub fn lent_verdict(words: usize, image: usize, size: usize, buffer: usize) -> Verdict
@@ -94,32 +120,53 @@ pub fn lent_verdict(words: usize, image: usize, size: usize, buffer: usize) -> V
     Verdict::Accepted
 }
 
-// Numbers 1 to 9 of a command call, or the packet's fields.
-pub fn opened(words: usize, image: usize, reply: usize, packet: &[u8], unit: u8) -> Reading
-    ensures { λ r. ⌜ r ≡ openedBy words image reply (now (packet .entry)) unit ⌝ }
+// What a packet asks for whose fields are these; or 9, 17 or 18.
+fn order_of(symbols: &[u8], known: Known, packet: &[u8], f: Telecommand) -> Opened
+    requires { ⌜ KnownOf known (now symbols) ⌝ }
+    ensures { λ r. ⌜ r ≡ orderOf (now (symbols .entry)) (now (packet .entry)) (Read f) ⌝ }
+{
+    let k = f.command;
+    let sought = asked(symbols, known, packet, k);
+    match sought {
+        Sought::Denied(r) => Opened::Shut(r),
+        Sought::Asked(task) => Opened::Open(Order {
+            transaction: f.header.transaction,
+            task,
+        }),
+    }
+}
+
+// Numbers 1 to 9, 17 and 18 of a command call, or what it is asked. `known` is what is known of the symbol table.
+pub fn opened_by(
+    words: usize,
+    image: usize,
+    reply: usize,
+    packet: &[u8],
+    symbols: &[u8],
+    known: Known,
+    unit: u8,
+) -> Opened
+    requires { ⌜ KnownOf known (now symbols) ⌝ }
+    ensures { λ r. ⌜ r ≡ openedBy words image reply (now (packet .entry)) (now (symbols .entry)) unit ⌝ }
 {
     let lent = lent_verdict(words, image, 32, reply);
     match lent {
-        Verdict::Rejected(r) => Reading::Unread(r),
-        Verdict::Accepted => frame(packet, unit),
+        Verdict::Rejected(r) => Opened::Shut(r),
+        Verdict::Accepted => {
+            let reading = fields(packet, framed(packet, unit));
+            match reading {
+                Reading::Unread(r) => Opened::Shut(r),
+                Reading::Read(f) => order_of(symbols, known, packet, f),
+            }
+        }
     }
 }
 
 // NUMBERS 10 TO 15
 
-pub fn range_of(q: Request) -> Range
-    ensures { λ r. ⌜ r ≡ requested q ⌝ }
-{
-    let start = q.address;
-    Range {
-        start,
-        words: q.size as u32,
-    }
-}
-
 // A dump: `busy` is the lowest place busy with its number, `idle` the lowest idle one; 4 where there is none.
-pub fn dump(t: u16, q: Request, found: Found, busy: usize, idle: usize) -> Decision
-    ensures { λ d. ⌜ d ≡ decideDump t q found busy idle ⌝ }
+pub fn dump(t: u16, range: Range, found: Found, busy: usize, idle: usize) -> Decision
+    ensures { λ d. ⌜ d ≡ decideDump t range found busy idle ⌝ }
 {
     match found {
         Found::Missed(r) => Decision::Refuse(r),
@@ -135,7 +182,7 @@ pub fn dump(t: u16, q: Request, found: Found, busy: usize, idle: usize) -> Decis
             }
             let dump = ActiveDump {
                 transaction: t,
-                range: range_of(q),
+                range,
                 sent: 0,
             };
             Decision::Dump(Seat { place: idle, dump })
@@ -153,8 +200,8 @@ pub fn cancel(busy: usize) -> Decision
     Decision::Cancel(Freed { place: busy })
 }
 
-pub fn load(q: Request, found: Found) -> Decision
-    ensures { λ d. ⌜ d ≡ decideLoad q found ⌝ }
+pub fn load(range: Range, found: Found) -> Decision
+    ensures { λ d. ⌜ d ≡ decideLoad range found ⌝ }
 {
     match found {
         Found::Missed(r) => Decision::Refuse(r),
@@ -165,7 +212,7 @@ pub fn load(q: Request, found: Found) -> Decision
             let at = spot.index;
             Decision::Load(Stored {
                 at,
-                words: q.size as usize,
+                words: range.words as usize,
             })
         }
     }
@@ -218,7 +265,8 @@ pub fn is_counted(r: Refusal) -> bool
         Refusal::NotBusy => true,
         Refusal::PoolDamaged => true,
         Refusal::NothingToSend => false,
-        Refusal::BadTable => false,
+        Refusal::BadTable => true,
+        Refusal::UnknownSymbol => true,
     }
 }
 
@@ -232,6 +280,7 @@ pub fn answer_of(d: Decision) -> Answer
         Decision::Cancel(_) => Answer::Done(Written { length: 0 }),
         Decision::Load(_) => Answer::Done(Written { length: 0 }),
         Decision::Reply(_) => Answer::Done(Written { length: 32 }),
+        Decision::Tell(_) => Answer::Done(Written { length: 12 }),
     }
 }
 
@@ -257,6 +306,16 @@ pub fn write_out(d: Decision, packet: &[u8], image: &mut [u32], reply: &mut [u8]
                 header.transaction,
                 r.pool,
                 figures,
+            );
+        }
+        Decision::Tell(t) => {
+            let header = t.header;
+            put_value(
+                reply,
+                header.count,
+                header.unit,
+                header.transaction,
+                t.value,
             );
         }
     }

@@ -1,5 +1,5 @@
-// A pass of the memory service that a person can follow: start-up, a dump, a load, pool statistics, slots until the dump is whole, and
-// commands that are refused. Each packet is printed in hex with its fields named, each answer with what its number means.
+// A pass of the memory service that a person can follow: start-up, a dump, a load, pool statistics, slots until the dump is whole,
+// commands that are refused, a symbol's value and a dump by its name. Each packet is printed in hex with its fields named, each answer with what its number means.
 use command_writer::write_command;
 use report::front;
 use report::result;
@@ -15,6 +15,7 @@ use rules::Region;
 use rules::Request;
 use rules::Returned;
 use rules::State;
+use rules::SymbolRequest;
 
 fn range(start: u32, words: u32) -> Range {
     Range {
@@ -80,6 +81,12 @@ fn command_at(i: usize) -> Command {
         1 => Command::Load(request(1, 8160)),
         2 => Command::PoolStatistics(1),
         6 => Command::Dump(request(2, 8160)),
+        8 => Command::SymbolValue(1),
+        9 => Command::DumpSymbol(SymbolRequest {
+            name: 4,
+            offset: 4064,
+            size: 1,
+        }),
         _ => Command::Cancel,
     }
 }
@@ -106,6 +113,16 @@ fn header_at(i: usize) -> Header {
             unit: 2,
             transaction: 293,
         },
+        8 => Header {
+            count: 5,
+            unit: 2,
+            transaction: 294,
+        },
+        9 => Header {
+            count: 6,
+            unit: 2,
+            transaction: 295,
+        },
         _ => Header {
             count: 4,
             unit: 2,
@@ -114,15 +131,35 @@ fn header_at(i: usize) -> Header {
     }
 }
 
+// The symbols "HEAT", at the first region's start, and "H", its alias.
+fn symbols() -> [u8; 112] {
+    let mut t = [0u8; 112];
+    t[1] = 4;
+    t[4] = b'H';
+    t[5] = b'E';
+    t[6] = b'A';
+    t[7] = b'T';
+    t[54] = 16;
+    t[56] = 1;
+    t[57] = 1;
+    t[60] = b'H';
+    t
+}
+
+// The first word beside the command of a step: the load's, or the first four bytes of "HEAT".
+fn word_at(i: usize) -> u32 {
+    if i == 1 { 16909060 } else { 1212498260 }
+}
+
 // Writes the packet of a step's command, and says how long it is.
-fn write(i: usize, packet: &mut [u8; 60]) -> usize {
-    let words = [16909060, 0, 0, 0, 0, 0, 0, 0, 0, 0, 0];
+fn write(i: usize, packet: &mut [u8; 68]) -> usize {
+    let words = [word_at(i), 0, 0, 0, 0, 0, 0, 0, 0, 0, 0, 0];
     answer_length(write_command(header_at(i), command_at(i), &words, packet))
 }
 
 // Shows what a step does: a slot at a tick, or a command, whose packet it writes. Says how long the packet is.
-fn prepare(i: usize, tick: u32, packet: &mut [u8; 60]) -> usize {
-    if (3 <= i) & (i < 6) {
+fn prepare(i: usize, tick: u32, packet: &mut [u8; 68]) -> usize {
+    if ((3 <= i) & (i < 6)) | (i == 10) {
         say(b"\nslot, tick %", 0, [tick as u64, 0, 0]);
         return 0;
     }
@@ -134,14 +171,14 @@ fn prepare(i: usize, tick: u32, packet: &mut [u8; 60]) -> usize {
 // The command call with a packet of n bytes, or the slot call where n is 0.
 fn serve(
     s: State,
-    packet: &[u8; 60],
+    packet: &[u8; 68],
     n: usize,
     tick: u32,
     image: &mut [u32; 1023],
     buffer: &mut [u8; 4092],
 ) -> Returned {
     if 0 < n {
-        return command::command(s, front(packet, n), image, buffer);
+        return command::command(s, front(packet, n), &symbols(), image, buffer);
     }
     slot::slot(s, tick, image, buffer)
 }
@@ -149,7 +186,7 @@ fn serve(
 // The same, with its answer shown.
 fn turn(
     s: State,
-    packet: &[u8; 60],
+    packet: &[u8; 68],
     n: usize,
     tick: u32,
     image: &mut [u32; 1023],
@@ -169,12 +206,12 @@ fn totals(s: State) {
     );
 }
 
-// Eight steps: three commands, three slots at ticks 5 to 7, two commands.
+// Eleven steps: three commands, three slots at ticks 5 to 7, four commands, a slot.
 fn pass(image: &mut [u32; 1023], buffer: &mut [u8; 4092]) {
-    let mut packet = [0u8; 60];
+    let mut packet = [0u8; 68];
     let mut s = start();
     let mut i: usize = 0;
-    while i < 8 {
+    while i < 11 {
         let tick = i as u32 + 2;
         let n = prepare(i, tick, &mut packet);
         s = turn(s, &packet, n, tick, image, buffer);

@@ -6,7 +6,7 @@ use Prim.Native.Nat.{ℕ}
 use lib.ListN.{getD}
 use Rattle.rules.specs.Packets.{codeOf}
 use Rattle.rules.specs.declared.Command.{Command}
-use Rattle.rules.specs.declared.Command.the-variants.{Dump, Cancel, Load, PoolStatistics}
+use Rattle.rules.specs.declared.Command.the-variants.{Dump, Cancel, Load, PoolStatistics, SymbolValue, DumpSymbol}
 use Rattle.rules.specs.declared.Telecommand.{Telecommand}
 use Rattle.ground_blocks.specs.Fields.{bodyWords, headWords}
 
@@ -15,6 +15,8 @@ three-words (Dump q) = refl
 three-words Cancel = refl
 three-words (Load q) = refl
 three-words (PoolStatistics i) = refl
+three-words (SymbolValue n) = refl
+three-words (DumpSymbol q) = refl
 
 pub head-is : (f : Telecommand) (code : ℕ) → code ≡ codeOf (f .command) → (body : List ℕ) → body ≡ bodyWords (f .command)
     → (code ∷ f .header .count ∷ f .header .unit ∷ f .header .transaction ∷ getD body 0 0 ∷ getD body 1 0 ∷ getD body 2 0 ∷ []) ≡ headWords f

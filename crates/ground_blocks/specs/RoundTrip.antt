@@ -1,12 +1,12 @@
 -- The command block says what the command is: the words that the reader gives are those that the writer takes.
 use mathlib.Core.Path.{_≡_}
-use mathlib.Core.List.{List, _++_}
+use mathlib.Core.List.{List}
 use Prim.Native.Nat.{ℕ, _<_}
 use lib.ListN.{length}
 use Rattle.rules.specs.ReadBack.{CommandFits}
 use Rattle.rules.specs.declared.Decoded.the-variants.{Known}
 use Rattle.rules.specs.declared.Telecommand.{Telecommand}
-use Rattle.ground_blocks.specs.Fields.{headerIn, commandIn, dataIn, headWords}
+use Rattle.ground_blocks.specs.Fields.{headerIn, commandIn, dataIn, blockWords}
 
 -- numbers fit their types
 pub record FieldsFit (f : Telecommand) : Type 0 where
@@ -16,6 +16,6 @@ pub record FieldsFit (f : Telecommand) : Type 0 where
   pub command : CommandFits (f .command)
 
 pub record CommandRoundTrip : Type 0 where
-  pub header : (f : Telecommand) (ws : List ℕ) → FieldsFit f → headerIn (headWords f ++ ws) ≡ f .header
-  pub command : (f : Telecommand) (ws : List ℕ) → FieldsFit f → commandIn (headWords f ++ ws) ≡ Known (f .command)
-  pub words : (f : Telecommand) (ws : List ℕ) → length ws ≡ 11 → dataIn (headWords f ++ ws) ≡ ws
+  pub header : (f : Telecommand) (ws : List ℕ) → FieldsFit f → headerIn (blockWords f ws) ≡ f .header
+  pub command : (f : Telecommand) (ws : List ℕ) → FieldsFit f → length ws ≡ 12 → commandIn (blockWords f ws) ≡ Known (f .command)
+  pub words : (f : Telecommand) (ws : List ℕ) → length ws ≡ 12 → dataIn (blockWords f ws) ≡ ws

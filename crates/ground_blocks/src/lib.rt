@@ -2,7 +2,7 @@
 ghost use mathlib.Core.Path.{_≡_};
 ghost use Prim.Native.Nat.{min};
 ghost use Rattle.rules.specs.Packets.{codeOf};
-ghost use Rattle.ground_blocks.specs.Fields.{headerIn, sizeIn, requestIn, commandIn, bodyWords, headWords, fieldWords};
+ghost use Rattle.ground_blocks.specs.Fields.{headerIn, sizeIn, requestIn, symbolRequestIn, commandIn, bodyWords, headWords, tailWords, fieldWords};
 ghost use Rattle.ground_blocks.specs.RoundTrip.{CommandRoundTrip};
 use block::word_at;
 use rules::Address;
@@ -11,6 +11,7 @@ use rules::Decoded;
 use rules::DumpPacket;
 use rules::Header;
 use rules::Request;
+use rules::SymbolRequest;
 use rules::Telecommand;
 
 // A COMMAND READ FROM WORDS
@@ -54,6 +55,15 @@ fn request_in(b: &[u32]) -> Request
     Request { size, address }
 }
 
+fn symbol_request_in(b: &[u32]) -> SymbolRequest
+    ensures { λ r. ⌜ r ≡ symbolRequestIn (now (b .entry)) ⌝ }
+{
+    let name = at_most_8(word_at(b, 19));
+    let offset = word_at(b, 20);
+    let size = size_in(word_at(b, 4));
+    SymbolRequest { name, offset, size }
+}
+
 pub fn command_in(b: &[u32]) -> Decoded
     ensures { λ r. ⌜ r ≡ commandIn (now (b .entry)) ⌝ }
 {
@@ -63,6 +73,8 @@ pub fn command_in(b: &[u32]) -> Decoded
         1 => Decoded::Known(Command::Cancel),
         4 => Decoded::Known(Command::Load(request_in(b))),
         7 => Decoded::Known(Command::PoolStatistics(at_most_16(word_at(b, 6)))),
+        8 => Decoded::Known(Command::SymbolValue(at_most_8(word_at(b, 19)))),
+        9 => Decoded::Known(Command::DumpSymbol(symbol_request_in(b))),
         _ => Decoded::Unknown,
     }
 }
@@ -77,6 +89,8 @@ fn code_word(k: Command) -> u32
         Command::Cancel => 1,
         Command::Load(_) => 4,
         Command::PoolStatistics(_) => 7,
+        Command::SymbolValue(_) => 8,
+        Command::DumpSymbol(_) => 9,
     }
 }
 
@@ -88,6 +102,8 @@ fn body_words(k: Command) -> [u32; 3]
         Command::Cancel => [0; 3],
         Command::Load(q) => [q.size as u32, q.address.0, 0],
         Command::PoolStatistics(i) => [0, 0, i as u32],
+        Command::SymbolValue(_) => [0; 3],
+        Command::DumpSymbol(q) => [q.size as u32, 0, 0],
     }
 }
 
@@ -106,6 +122,20 @@ pub fn head_words(f: Telecommand) -> [u32; 7]
         body[1],
         body[2],
     ]
+}
+
+// The words after the twelve beside a command: name size and offset.
+pub fn tail_words(k: Command) -> [u32; 2]
+    ensures { λ r. ⌜ r ≡ tailWords k ⌝ }
+{
+    match k {
+        Command::Dump(_) => [0; 2],
+        Command::Cancel => [0; 2],
+        Command::Load(_) => [0; 2],
+        Command::PoolStatistics(_) => [0; 2],
+        Command::SymbolValue(n) => [n as u32, 0],
+        Command::DumpSymbol(q) => [q.name as u32, q.offset],
+    }
 }
 
 // A DUMP PACKET AS WORDS

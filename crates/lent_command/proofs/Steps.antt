@@ -4,17 +4,15 @@ use mathlib.Core.Path.{_≡_, refl, sym, ap, subst⁻¹, _∙_}
 use mathlib.Core.Logic.{_≢_}
 use mathlib.Core.Bool.{true, false}
 use mathlib.Core.List.{List}
-use Prim.Native.Nat.{ℕ, zero, suc, _+_, _*_, _%_, _≤_, _<_, min}
+use Prim.Native.Nat.{ℕ, zero, suc, _+_, _*_, _%_, _≤_, _<_}
 use native.Mathlib.Omega.{arith}
 use lib.Dec.{leb, ltb, eqb}
-use lib.ListN.{length, getD, set, take, drop, length-take, List·getD-eq-default}
+use lib.ListN.{length, take, drop, length-take, List·getD-eq-default}
 use lib.Seq.{getD-set-other}
 use borrow.Author.Tests.{leb-false}
-use Rattle.lists.specs.Splice.{splice}
 use Rattle.lists.proofs.Splice.{splice-above}
 use Rattle.lists.proofs.Tests.{either}
 use Rattle.rules.specs.Commands.{CommandArgs, Outcome, firstIdle, firstWith, commandCall}
-use Rattle.rules.specs.Packets.{requested}
 use Rattle.rules.specs.Pools.{blocksOf}
 use Rattle.pool.specs.Answers.{walkedOf}
 use Rattle.pool.specs.declared.Walked.{Walked}
@@ -22,35 +20,32 @@ use Rattle.pool.specs.declared.Walked.the-variants.{Damaged, Whole}
 use Rattle.rules.specs.Results.{counted, answerNumber, answerLength}
 use Rattle.rules.specs.States.{poolAt, goodState}
 use Rattle.rules.specs.declared.Answer.{Answer}
-use Rattle.rules.specs.declared.Command.{Command}
-use Rattle.rules.specs.declared.Command.the-variants.{Dump, Cancel, Load, PoolStatistics}
 use Rattle.rules.specs.declared.Context.{Context}
 use Rattle.rules.specs.declared.Context.the-variants.{Idle, Busy}
 use Rattle.rules.specs.declared.Header.{Header}
 use Rattle.rules.specs.declared.Range.{Range}
-use Rattle.rules.specs.declared.Reading.{Reading}
-use Rattle.rules.specs.declared.Reading.the-variants.{Unread, Read}
 use Rattle.rules.specs.declared.Refusal.the-variants.{BadState}
-use Rattle.rules.specs.declared.Request.{Request}
 use Rattle.rules.specs.declared.State.{State}
-use Rattle.rules.specs.declared.Telecommand.{Telecommand}
+use Rattle.rules.specs.declared.Task.{Task}
+use Rattle.rules.specs.declared.Task.the-variants.{Nothing, DumpRange, CancelDump, LoadRange, CountPool, TellValue}
 use Rattle.rules.proofs.Good.{good-out}
 use Rattle.rules.proofs.Rules.{start-out}
-use Rattle.places.specs.Turns.{firstWithin}
-use Rattle.regions.specs.Lookup.{findRegion}
 use Rattle.regions.specs.declared.Found.{Found}
 use Rattle.regions.specs.declared.Found.the-variants.{Missed, At}
-use Rattle.block.specs.Blocks.{word, rangeIn, regionsIn, placesIn, contextWords, blockOf, isBlock, stateOf}
+use Rattle.block.specs.Blocks.{word, rangeIn, contextWords, blockOf, isBlock, stateOf}
 use Rattle.block.specs.Calls.{goodWords, onState, lgCommand}
 use Rattle.block.proofs.Bounds.{block-out}
 use Rattle.block.proofs.Changes.{laws}
 use Rattle.block.proofs.Forth.{block-forth}
 use Rattle.block.proofs.Lengths.{context-words-length}
 use Rattle.block.proofs.Parts.{range-part}
-use Rattle.decide.specs.Decisions.{openedBy, decideDump, decideCancel, decideLoad, wordsFrom, decideWalked, decideFound, decidePool, find, byCommand, byReading, decision, answerOf, imageAfter, replyAfter, stateAfter, carriedOut}
+use Rattle.decide.specs.Decisions.{openedBy, decideDump, decideCancel, decideLoad, wordsFrom, decideWalked, decideFound, decidePool, find, byTask, byOrder, decision, answerOf, imageAfter, replyAfter, stateAfter, carriedOut}
 use Rattle.decide.specs.Decisions as decisions
 use Rattle.decide.specs.declared.Decision.{Decision}
-use Rattle.decide.specs.declared.Decision.the-variants.{Refuse, Dump as Placed, Cancel as Freed, Load as Stored, Reply}
+use Rattle.decide.specs.declared.Decision.the-variants.{Refuse, Dump, Cancel, Load, Reply, Tell}
+use Rattle.decide.specs.declared.Opened.{Opened}
+use Rattle.decide.specs.declared.Opened.the-variants.{Shut, Open}
+use Rattle.decide.specs.declared.Order.{Order}
 use Rattle.decide.proofs.Commands.{decided}
 use Rattle.lent_places.specs.Writing.{placed}
 use Rattle.lent_places.proofs.Answers.{placed-is}
@@ -72,26 +67,32 @@ module _ (b : List ℕ) where
       λ x. record { start = record { 0 = start x }; words = words x }
 
   -- counts and unit of a good state fit their fields
-  counts-low : goodState (stateOf b) ≡ true → (word b 75 % 65536 ≡ word b 75) × (word b 53 % 256 ≡ word b 53)
+  counts-low : goodState (stateOf b) ≡ true → (word b 75 % 65536 ≡ word b 75) × (word b 79 % 65536 ≡ word b 79) × (word b 53 % 256 ≡ word b 53)
   unfolding stateOf
   counts-low good =
       let g = good-out (stateOf b) good in
-      let p : word b 75 ≤ 16383 = g .replies in
+      let r : word b 75 ≤ 16383 = g .replies in
+      let v : word b 79 ≤ 16383 = g .values in
       let u : word b 53 ≤ 15 = start-out (stateOf b .regions) (stateOf b .count) (stateOf b .pools) (stateOf b .unit) (g .rules) .low in
-      (omega arith, omega arith)
+      (omega arith, omega arith, omega arith)
 
   pub pool-decided : goodState (stateOf b) ≡ true → (t i : ℕ) (image : List ℕ) {p : Range} {f : Found} {d : Decision} {count unit : ℕ}
       → p ≡ rangeIn (take 4 (drop 49 b)) (2 * i) → f ≡ find (stateOf b) p → count ≡ word b 75 → unit ≡ word b 53
       → d ≡ decidePool (record { count = count % 65536; unit = unit % 256; transaction = t }) i p f image
-      → d ≡ byCommand (stateOf b) image t (PoolStatistics i)
+      → d ≡ byTask (stateOf b) image t (CountPool i)
   unfolding stateOf
   pool-decided good t i image {p} {f} ep ef ec eu e =
       let l = counts-low good in
       let q : p ≡ poolAt (stateOf b .pools) i = ep ∙ pool-on i in
       let g : f ≡ find (stateOf b) (poolAt (stateOf b .pools) i) = ef ∙ ap (find (stateOf b)) q in
       let count = ap (λ (n : ℕ). n % 65536) ec ∙ l .0 in
-      let unit = ap (λ (n : ℕ). n % 256) eu ∙ l .1 in
+      let unit = ap (λ (n : ℕ). n % 256) eu ∙ l .2 in
       e ∙ (λ x. decidePool (record { count = count x; unit = unit x; transaction = t }) i (q x) (g x) image)
+
+  pub value-decided : goodState (stateOf b) ≡ true → (t v : ℕ) (image : List ℕ) {count unit : ℕ} → count ≡ word b 79 → unit ≡ word b 53
+      → Tell (record { header = record { count = count % 65536; unit = unit % 256; transaction = t }; value = v }) ≡ byTask (stateOf b) image t (TellValue v)
+  unfolding stateOf
+  value-decided good t v image ec eu = let l = counts-low good in rw (ec, eu, l .1, l .2)
 
 -- THE DECISION
 
@@ -114,19 +115,19 @@ module _ (b : List ℕ) where
 
   -- what a box of the block's unit reads; the unit of a good state is below 256
   pub opened-on : (c : CommandArgs) (unit : ℕ) → unit ≡ word b 53
-      → byReading (stateOf b) (c .image) (openedBy (goodWords b) (length (c .image)) (length (c .reply)) (c .packet) (unit % 256)) ≡ decisionOn b c
+      → byOrder (stateOf b) (c .image) (openedBy (goodWords b) (length (c .image)) (length (c .reply)) (c .packet) (c .symbols) (unit % 256)) ≡ decisionOn b c
   unfolding decisionOn decision
   opened-on c unit eu =
       either (isBlock b)
       (λ h. either (goodState (stateOf b))
-      (λ g. rw (h, words-same h, eu, counts-low b g .1, ← unit-is))
+      (λ g. rw (h, words-same h, eu, counts-low b g .2, ← unit-is))
       (λ g. rw (h, words-same h, state-none g)))
       (λ h. rw (h, words-none h))
 
--- what is read is read for a good state
-pub opened-some : (w image reply : ℕ) (p : List ℕ) (unit : ℕ) {f : Telecommand} → openedBy w image reply p unit ≡ Read f → w ≢ 0
-opened-some w image reply p unit {f} e z =
-    let g : openedBy 0 image reply p unit ≡ Read f = rw z at e in
+-- what is opened is opened for a good state
+pub opened-some : (w image reply : ℕ) (p symbols : List ℕ) (unit : ℕ) {a : Opened} {o : Order} → a ≡ openedBy w image reply p symbols unit → a ≡ Open o → w ≢ 0
+opened-some w image reply p symbols unit {a} ea e z =
+    let g : a ≡ openedBy 0 image reply p symbols unit = rw z at ea in
     let h : _≡_ {A = ℕ} 0 1 = cc in
     absurd (omega arith)
 
@@ -135,14 +136,15 @@ opened-some w image reply p unit {f} e z =
 -- a place that is taken or freed is one of four, and a reply's length fits in a word
 abbrev pub Low : Decision → Type 0
 Low (Refuse r) = Unit {0}
-Low (Placed x) = x .place < 4
-Low (Freed x) = x .place < 4
-Low (Stored x) = Unit {0}
+Low (Dump x) = x .place < 4
+Low (Cancel x) = x .place < 4
+Low (Load x) = Unit {0}
 Low (Reply x) = Unit {0}
+Low (Tell x) = Unit {0}
 
-low-dump : (t : ℕ) (q : Request) (f : Found) (busy idle : ℕ) → Low (decideDump t q f busy idle)
-low-dump t q (Missed r) busy idle = tt
-low-dump t q (At spot) busy idle =
+low-dump : (t : ℕ) (a : Range) (f : Found) (busy idle : ℕ) → Low (decideDump t a f busy idle)
+low-dump t a (Missed r) busy idle = tt
+low-dump t a (At spot) busy idle =
     either (spot .dump)
     (λ e. either (ltb busy 4)
     (λ f. rw (e, f) tt)
@@ -152,9 +154,9 @@ low-dump t q (At spot) busy idle =
 low-cancel : (busy : ℕ) → Low (decideCancel busy)
 low-cancel busy = either (leb 4 busy) (λ g. rw g tt) (λ g. rw g (leb-false _ _ g))
 
-low-load : (q : Request) (f : Found) → Low (decideLoad q f)
-low-load q (Missed r) = tt
-low-load q (At spot) = either (spot .load) (λ g. rw g tt) (λ g. rw g tt)
+low-load : (a : Range) (f : Found) → Low (decideLoad a f)
+low-load a (Missed r) = tt
+low-load a (At spot) = either (spot .load) (λ g. rw g tt) (λ g. rw g tt)
 
 module _ (h : Header) (i : ℕ) where
   low-walked : (w : Walked) → Low (decideWalked h i w)
@@ -169,28 +171,30 @@ module _ (h : Header) (i : ℕ) where
   low-pool p f image = either (eqb (p .words) 0) (λ g. rw g tt) (λ g. rw g (low-found p f image))
 
 module _ (s : State) (image : List ℕ) where
-  low-command : (t : ℕ) (k : Command) → Low (byCommand s image t k)
-  low-command t (Dump q) = low-dump t q (find s (requested q)) (firstWith t (s .places)) (firstIdle (s .places))
-  low-command t Cancel = low-cancel (firstWith t (s .places))
-  low-command t (Load q) = low-load q (find s (requested q))
-  low-command t (PoolStatistics i) = low-pool _ i (poolAt (s .pools) i) (find s (poolAt (s .pools) i)) image
+  low-task : (t : ℕ) (k : Task) → Low (byTask s image t k)
+  low-task t Nothing = tt
+  low-task t (DumpRange a) = low-dump t a (find s a) (firstWith t (s .places)) (firstIdle (s .places))
+  low-task t CancelDump = low-cancel (firstWith t (s .places))
+  low-task t (LoadRange a) = low-load a (find s a)
+  low-task t (CountPool i) = low-pool _ i (poolAt (s .pools) i) (find s (poolAt (s .pools) i)) image
+  low-task t (TellValue v) = tt
 
-  low-reading : (r : Reading) → Low (byReading s image r)
-  low-reading (Unread r) = tt
-  low-reading (Read f) = low-command (f .header .transaction) (f .command)
+  low-order : (o : Opened) → Low (byOrder s image o)
+  low-order (Shut r) = tt
+  low-order (Open o) = low-task (o .transaction) (o .task)
 
 low : (s : State) (c : CommandArgs) → Low (decision s c)
 unfolding decision
-low s c = low-reading s (c .image) (openedBy (decisions.goodWords s) (length (c .image)) (length (c .reply)) (c .packet) (s .unit))
+low s c = low-order s (c .image) (openedBy (decisions.goodWords s) (length (c .image)) (length (c .reply)) (c .packet) (c .symbols) (s .unit))
 
 -- a word past the places is as it was
-past-places : (b : List ℕ) (i : ℕ) (a : Context) → length b ≡ 79 → i < 4 → word (placed b i a) 77 ≡ word b 77
+past-places : (b : List ℕ) (i : ℕ) (a : Context) → length b ≡ 80 → i < 4 → word (placed b i a) 77 ≡ word b 77
 past-places b i a n l =
     let k = context-words-length a in
     ap (λ (x : List ℕ). word x 77) (placed-is b i a n l) ∙ splice-above b (54 + 5 * i) (contextWords a) (omega arith) 77 (omega arith)
 
 module _ (b : List ℕ) (fits : (i : ℕ) → word b i < 4294967296) (block : isBlock b ≡ true) where
-  words : length b ≡ 79
+  words : length b ≡ 80
   words = block-out b block .words
 
   -- the words after a decision are those of the state after it
@@ -200,35 +204,36 @@ module _ (b : List ℕ) (fits : (i : ℕ) → word b i < 4294967296) (block : is
       either (counted r)
       (λ e. rw e (sym (laws .calls b fits block .refusal ((word b 78 + 1) % 65536))))
       (λ e. rw e (sym (block-forth b fits block)))
-  block-after (Placed x) l =
+  block-after (Dump x) l =
       rw (past-places b (x .place) (Busy (x .dump)) words l, placed-is b (x .place) (Busy (x .dump)) words l)
       (sym (laws .calls b fits block .dump (x .place) (Busy (x .dump)) ((word b 77 + 1) % 65536) l))
-  block-after (Freed x) l =
+  block-after (Cancel x) l =
       rw (past-places b (x .place) Idle words l, placed-is b (x .place) Idle words l)
       (sym (laws .calls b fits block .dump (x .place) Idle ((word b 77 + 1) % 65536) l))
-  block-after (Stored x) l = sym (laws .calls b fits block .load ((word b 77 + 1) % 65536))
+  block-after (Load x) l = sym (laws .calls b fits block .load ((word b 77 + 1) % 65536))
   block-after (Reply x) l =
       let e : word (raised b 75 16384) 77 ≡ word b 77 = getD-set-other b 75 77 ((word b 75 + 1) % 16384) 0 (λ h. absurd (omega arith)) in
       rw e (sym (laws .calls b fits block .reply ((word b 75 + 1) % 16384) ((word b 77 + 1) % 65536)))
+  block-after (Tell x) l =
+      let e : word (raised b 79 16384) 77 ≡ word b 77 = getD-set-other b 79 77 ((word b 79 + 1) % 16384) 0 (λ h. absurd (omega arith)) in
+      rw e (sym (laws .calls b fits block .value ((word b 79 + 1) % 16384) ((word b 77 + 1) % 65536)))
 
-module _ (b : List ℕ) (fits : (i : ℕ) → word b i < 4294967296) (packet image reply : List ℕ) where
-  abbrev args : CommandArgs
-  args = record { packet = packet; image = image; reply = reply }
-
+module _ (b : List ℕ) (fits : (i : ℕ) → word b i < 4294967296) (args : CommandArgs) where
   abbrev Left : ℕ → List ℕ → List ℕ → List ℕ → ℕ → Type 0
   Left n words after left bytes =
-      (n ≡ lgCommand b packet image reply .number) × (words ≡ lgCommand b packet image reply .state) × (after ≡ lgCommand b packet image reply .image)
-      × (left ≡ lgCommand b packet image reply .buffer) × (bytes ≡ lgCommand b packet image reply .bytes)
+      (n ≡ lgCommand b args .number) × (words ≡ lgCommand b args .state) × (after ≡ lgCommand b args .image)
+      × (left ≡ lgCommand b args .buffer) × (bytes ≡ lgCommand b args .bytes)
 
   low-bytes : (d : Decision) → answerLength (answerOf d) % 4294967296 ≡ answerLength (answerOf d)
   low-bytes (Refuse r) = refl
-  low-bytes (Placed x) = refl
-  low-bytes (Freed x) = refl
-  low-bytes (Stored x) = refl
+  low-bytes (Dump x) = refl
+  low-bytes (Cancel x) = refl
+  low-bytes (Load x) = refl
   low-bytes (Reply x) = refl
+  low-bytes (Tell x) = refl
 
   module _ {d : Decision} (e : d ≡ decisionOn b args) {words after left : List ℕ} {a : Answer} {n bytes : ℕ} (w : words ≡ blockAfter b d)
-      (o : (after ≡ imageAfter d packet image) × (left ≡ replyAfter d reply)) (s : a ≡ answerOf d)
+      (o : (after ≡ imageAfter d (args .packet) (args .image)) × (left ≡ replyAfter d (args .reply))) (s : a ≡ answerOf d)
       (h : (n ≡ answerNumber a) × (bytes ≡ answerLength a % 4294967296)) where
     on-block : isBlock b ≡ true → Left n words after left bytes
     unfolding onState decisionOn
@@ -251,8 +256,8 @@ module _ (b : List ℕ) (fits : (i : ℕ) → word b i < 4294967296) (packet ima
         rw k (
           h .0 ∙ ap answerNumber (s ∙ ap answerOf f),
           w ∙ ap (blockAfter b) f,
-          o .0 ∙ ap (λ (y : Decision). imageAfter y packet image) f,
-          o .1 ∙ ap (λ (y : Decision). replyAfter y reply) f,
+          o .0 ∙ ap (λ (y : Decision). imageAfter y (args .packet) (args .image)) f,
+          o .1 ∙ ap (λ (y : Decision). replyAfter y (args .reply)) f,
           h .1 ∙ ap (λ (y : Answer). answerLength y % 4294967296) (s ∙ ap answerOf f),
         )
 

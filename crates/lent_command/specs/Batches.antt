@@ -9,11 +9,11 @@ use Rattle.batches.specs.Batch.{BatchArgs, Single, Batch, batch}
 abbrev pub onBlock : List ℕ → CommandArgs → Single (List ℕ)
 onBlock b c =
     record {
-      number = lgCommand b (c .packet) (c .image) (c .reply) .number;
-      length = lgCommand b (c .packet) (c .image) (c .reply) .bytes;
-      state = lgCommand b (c .packet) (c .image) (c .reply) .state;
-      image = lgCommand b (c .packet) (c .image) (c .reply) .image;
-      reply = lgCommand b (c .packet) (c .image) (c .reply) .buffer;
+      number = lgCommand b c .number;
+      length = lgCommand b c .bytes;
+      state = lgCommand b c .state;
+      image = lgCommand b c .image;
+      reply = lgCommand b c .buffer;
     }
 
 abbrev pub lgCommands : List ℕ → BatchArgs → ℕ → Batch (List ℕ)

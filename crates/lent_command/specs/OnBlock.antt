@@ -10,7 +10,7 @@ use Rattle.rules.specs.declared.Refusal.the-variants.{BadState}
 use Rattle.block.specs.Blocks.{word, stateOf, isBlock}
 use Rattle.decide.specs.Decisions.{decision}
 use Rattle.decide.specs.declared.Decision.{Decision}
-use Rattle.decide.specs.declared.Decision.the-variants.{Refuse, Dump, Cancel, Load, Reply}
+use Rattle.decide.specs.declared.Decision.the-variants.{Refuse, Dump, Cancel, Load, Reply, Tell}
 use Rattle.lent_places.specs.Writing.{placed}
 
 -- a block that is no state is refused with 1
@@ -27,3 +27,4 @@ blockAfter b (Dump x) = raised (placed b (x .place) (Busy (x .dump))) 77 65536
 blockAfter b (Cancel x) = raised (placed b (x .place) Idle) 77 65536
 blockAfter b (Load x) = raised b 77 65536
 blockAfter b (Reply x) = raised (raised b 75 16384) 77 65536
+blockAfter b (Tell x) = raised (raised b 79 16384) 77 65536

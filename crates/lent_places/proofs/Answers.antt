@@ -50,7 +50,7 @@ block-places b h =
     (λ i l. bounds-part b 54 20 (5 * i) (54 + 5 * i) (omega arith) (omega arith) ∙ place-bounds b (block-out b h) i l)
     ∙ places-part b 54
 
--- a place written to a block of 79 words
-pub placed-is : (b : List ℕ) (i : ℕ) (c : Context) → length b ≡ 79 → i < 4 → placed b i c ≡ splice b (54 + 5 * i) (contextWords c)
+-- a place written to a block of 80 words
+pub placed-is : (b : List ℕ) (i : ℕ) (c : Context) → length b ≡ 80 → i < 4 → placed b i c ≡ splice b (54 + 5 * i) (contextWords c)
 unfolding placed
-placed-is b i c n l = rw (eq-eqb (length b) 79 n, lt-ltb i 4 l)
+placed-is b i c n l = rw (eq-eqb (length b) 80 n, lt-ltb i 4 l)

@@ -95,18 +95,18 @@ module _ (b : List ℕ) where
 -- A PLACE WRITTEN
 
 module _ (b : List ℕ) (i : ℕ) (c : Context) where
-  pub other-length : length b ≢ 79 → b ≡ placed b i c
+  pub other-length : length b ≢ 80 → b ≡ placed b i c
   unfolding placed
-  other-length n = rw (ne-eqb (length b) 79 n)
+  other-length n = rw (ne-eqb (length b) 80 n)
 
-  pub no-place : length b ≡ 79 → 4 ≤ i → b ≡ placed b i c
+  pub no-place : length b ≡ 80 → 4 ≤ i → b ≡ placed b i c
   unfolding placed
-  no-place n l = rw (eq-eqb (length b) 79 n, le-ltb i 4 l)
+  no-place n l = rw (eq-eqb (length b) 80 n, le-ltb i 4 l)
 
   -- the five words are put where they are to be
-  pub place-written : length b ≡ 79 → i < 4 → {v b′ : List ℕ} → v ≡ contextWords c
+  pub place-written : length b ≡ 80 → i < 4 → {v b′ : List ℕ} → v ≡ contextWords c
       → (54 + 5 * i + length v ≤ length b → b′ ≡ splice b (54 + 5 * i) v) → b′ ≡ placed b i c
   unfolding placed
   place-written n l {v} {b′} ev h =
       let k : length v ≡ 5 = ap length ev ∙ context-words-length c in
-      rw (eq-eqb (length b) 79 n, lt-ltb i 4 l) (h (omega arith) ∙ ap (splice b (54 + 5 * i)) ev)
+      rw (eq-eqb (length b) 80 n, lt-ltb i 4 l) (h (omega arith) ∙ ap (splice b (54 + 5 * i)) ev)

@@ -156,7 +156,7 @@ fn context_words(c: Context) -> [u32; 5]
 pub fn put_context(b: &mut [u32], i: usize, c: Context)
     ensures { λ _. ⌜ now (b .exit) ≡ placed (now (b .entry)) i c ⌝ }
 {
-    if b.len() != 79 {
+    if b.len() != 80 {
         return;
     }
     if 4 <= i {

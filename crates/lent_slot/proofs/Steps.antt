@@ -125,7 +125,7 @@ module _ (b : List ℕ) (fits : (i : ℕ) → word b i < 4294967296) (block : is
   block-after (Keep r) l = sym (block-forth b fits block)
   block-after (Send x) l =
       let p = x .place in
-      let n : length b ≡ 79 = block-out b block .words in
+      let n : length b ≡ 80 = block-out b block .words in
       let e = placed-is b p (x .after) n (l .0) in
       let m : p % 4 ≡ p = omega (arith, l .0) in
       let k = context-words-length (x .after) in

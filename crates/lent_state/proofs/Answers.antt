@@ -77,7 +77,7 @@ module _ (b : List ℕ) (n w : ℕ) (en : n ≡ word b 0) (ew : w ≡ tableWords
       → 0 ≡ goodWords b
   places-refused p e h = refused b (λ k. contra (places-are e ∙ k .places) (not-true p h))
 
-  pub all-passed : length b ≡ 79 → w ≢ 0 → (r u : Bool) → r ≡ regionsBounds (take 48 (drop 1 b)) 0 → u ≡ wordRules b → not (r && u) ≡ false
+  pub all-passed : length b ≡ 80 → w ≢ 0 → (r u : Bool) → r ≡ regionsBounds (take 48 (drop 1 b)) 0 → u ≡ wordRules b → not (r && u) ≡ false
       → (p : Bool) → p ≡ poolsRules (regionsIn (take 48 (drop 1 b)) 0) n (take 4 (drop 49 b)) 0 → not p ≡ false
       → (q : Bool) → q ≡ allBelow (placeTests (regionsIn (take 48 (drop 1 b)) 0) n (take 20 (drop 54 b)) 0) 4 → not q ≡ false → w ≡ goodWords b
   all-passed l s r u er eu hw p ep hp q eq hq =

@@ -29,6 +29,7 @@ record WordsAre (b : List ℕ) : Type 0 where
   packets : word b 76 ≤ 16383
   accepted : word b 77 ≤ 65535
   refused : word b 78 ≤ 65535
+  values : word b 79 ≤ 16383
 
 module _ (b : List ℕ) where
   words-out : wordRules b ≡ true → WordsAre b
@@ -39,7 +40,9 @@ module _ (b : List ℕ) where
       let d = leb (word b 76) 16383 in
       let a = leb (word b 77) 65535 in
       let r = leb (word b 78) 65535 in
-      let g = and-left (u && l && p && d && a) r h in
+      let v = leb (word b 79) 16383 in
+      let e = and-left (u && l && p && d && a && r) v h in
+      let g = and-left (u && l && p && d && a) r e in
       let f = four-out u l p d (and-left (u && l && p && d) a g) in
       record {
         unit = leb-true _ _ (f .first);
@@ -47,7 +50,8 @@ module _ (b : List ℕ) where
         replies = leb-true _ _ (f .third);
         packets = leb-true _ _ (f .fourth);
         accepted = leb-true _ _ (and-right (u && l && p && d) a g);
-        refused = leb-true _ _ (and-right (u && l && p && d && a) r h);
+        refused = leb-true _ _ (and-right (u && l && p && d && a) r e);
+        values = leb-true _ _ (and-right (u && l && p && d && a && r) v h);
       }
 
   words-in : WordsAre b → wordRules b ≡ true
@@ -59,6 +63,7 @@ module _ (b : List ℕ) where
         le-leb (word b 76) 16383 (w .packets),
         le-leb (word b 77) 65535 (w .accepted),
         le-leb (word b 78) 65535 (w .refused),
+        le-leb (word b 79) 16383 (w .values),
       )
 
   -- the four parts of the test, after that of the length
@@ -86,12 +91,12 @@ module _ (b : List ℕ) where
     own-rules : (i : ℕ) → i < 4 → placeRules (regionsIn b 1) (word b 0) (placesIn b 54) i ≡ true
     own-rules i l = and-right (placeBounds b (54 + 5 * i)) (placeRules (regionsIn b 1) (word b 0) (placesIn b 54) i) (own-place i l)
 
-    is-block : length b ≡ 79 → isBlock b ≡ true
+    is-block : length b ≡ 80 → isBlock b ≡ true
     unfolding isBlock
     is-block n =
         let w = own-words in
         rw (
-          eq-eqb (length b) 79 n,
+          eq-eqb (length b) 80 n,
           and-left (regionsBounds b 1) (wordRules b) (p .words),
           le-leb (word b 53) 255 (omega arith),
           own-bounds 0 (omega arith),
@@ -103,6 +108,7 @@ module _ (b : List ℕ) where
           le-leb (word b 76) 65535 (omega arith),
           le-leb (word b 77) 65535 (omega arith),
           le-leb (word b 78) 65535 (omega arith),
+          le-leb (word b 79) 65535 (omega arith),
         )
 
     is-good : goodState (stateOf b) ≡ true
@@ -113,8 +119,8 @@ module _ (b : List ℕ) where
         let second = and-right (poolRules (regionsIn b 1) (word b 0) (rangeIn b 49)) (poolRules (regionsIn b 1) (word b 0) (rangeIn b 51)) (p .pools) in
         let start = and-both (and-both (and-both (p .table) first) second) (le-leb (word b 53) 15 (w .unit)) in
         let counts =
-        and-both (and-both (and-both (and-both (le-leb (word b 74) 3 (w .last)) (le-leb (word b 75) 16383 (w .replies))) (le-leb (word b 76) 16383 (w .packets)))
-        (le-leb (word b 77) 65535 (w .accepted))) (le-leb (word b 78) 65535 (w .refused))
+        and-both (and-both (and-both (and-both (and-both (le-leb (word b 74) 3 (w .last)) (le-leb (word b 75) 16383 (w .replies))) (le-leb (word b 79) 16383 (w .values)))
+        (le-leb (word b 76) 16383 (w .packets))) (le-leb (word b 77) 65535 (w .accepted))) (le-leb (word b 78) 65535 (w .refused))
         in
         let places = and-both (eq-eqb (length (placesIn b 54)) 4 four) (all-of (placeRules (regionsIn b 1) (word b 0) (placesIn b 54)) 4 own-rules) in
         and-both (and-both start counts) places
@@ -145,6 +151,7 @@ module _ (b : List ℕ) where
               packets = g .packets;
               accepted = g .accepted;
               refused = g .refused;
+              values = g .values;
             }));
         pools = and-both (start .pools 0 (omega arith)) (start .pools 1 (omega arith));
         places =
@@ -161,10 +168,10 @@ module _ (b : List ℕ) where
   unfolding goodWords
   refused f = either (isBlock b && goodState (stateOf b)) (λ e. absurd (f (good-parts e))) (λ e. rw e)
 
-  pub refused-length : length b ≢ 79 → 0 ≡ goodWords b
+  pub refused-length : length b ≢ 80 → 0 ≡ goodWords b
   unfolding goodWords
   refused-length n = rw (not-block b n)
 
-  pub passed : length b ≡ 79 → Parts → imageLength (regionsIn b 1) (word b 0) ≡ goodWords b
+  pub passed : length b ≡ 80 → Parts → imageLength (regionsIn b 1) (word b 0) ≡ goodWords b
   unfolding goodWords stateOf
   passed n p = rw (is-block p n, is-good p)

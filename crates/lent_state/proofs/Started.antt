@@ -30,14 +30,14 @@ use Rattle.lent_state.specs.Writing.{tableWritten}
 
 -- THE STATE OF ZERO REGIONS: zeros, but for the last place served
 
-pub none-is : {b z : List ℕ} (l : List ℕ) → length l ≡ 79 → z ≡ replicate (length l) 0 → b ≡ set z 74 3 → b ≡ blockOf noState
+pub none-is : {b z : List ℕ} (l : List ℕ) → length l ≡ 80 → z ≡ replicate (length l) 0 → b ≡ set z 74 3 → b ≡ blockOf noState
 unfolding blockOf runs
 none-is l n ez eb = eb ∙ rw (ez, n)
 
 -- A TABLE WRITTEN OVER IT, by words
 
 record Written (t f : List ℕ) : Type 0 where
-  length-is : length f ≡ 79
+  length-is : length f ≡ 80
   count : word f 0 ≡ word t 1
   used : (k : ℕ) → k < 3 * word t 1 → word f (1 + k) ≡ word t (6 + k)
   spare : (k : ℕ) → 3 * word t 1 ≤ k → k < 48 → word f (1 + k) ≡ 0
@@ -45,7 +45,7 @@ record Written (t f : List ℕ) : Type 0 where
   unit : word f 53 ≡ word t 0
   idle : (k : ℕ) → k < 20 → word f (54 + k) ≡ 0
   last : word f 74 ≡ 3
-  counts : (k : ℕ) → k < 4 → word f (75 + k) ≡ 0
+  counts : (k : ℕ) → k < 5 → word f (75 + k) ≡ 0
 
 module _ (t : List ℕ) (n : length t ≡ 54) (m : word t 1 ≤ 16) where
   abbrev regions : List ℕ
@@ -55,7 +55,7 @@ module _ (t : List ℕ) (n : length t ≡ 54) (m : word t 1 ≤ 16) where
   pools = take 4 (drop 2 t)
 
   abbrev one : List ℕ
-  one = set (set (replicate 79 0) 74 3) 0 (word t 1)
+  one = set (set (replicate 80 0) 74 3) 0 (word t 1)
 
   abbrev two : List ℕ
   two = splice one 1 regions
@@ -72,13 +72,13 @@ module _ (t : List ℕ) (n : length t ≡ 54) (m : word t 1 ≤ 16) where
   regions-fit : 1 + length regions ≤ length one
   regions-fit = let k = regions-length in omega arith
 
-  two-length : length two ≡ 79
+  two-length : length two ≡ 80
   two-length = splice-length one 1 regions regions-fit
 
   pools-fit : 49 + length pools ≤ length two
   pools-fit = let k = pools-length in let l = two-length in omega arith
 
-  three-length : length three ≡ 79
+  three-length : length three ≡ 80
   three-length = splice-length two 49 pools pools-fit ∙ two-length
 
   -- the words before the pools, and those after the unit
@@ -94,8 +94,8 @@ module _ (t : List ℕ) (n : length t ≡ 54) (m : word t 1 ≤ 16) where
 
   zero-word : (k : ℕ) → 0 < k → k < 74 → word one k ≡ 0
   zero-word k a b =
-      getD-set-other (set (replicate 79 0) 74 3) 0 k (word t 1) 0 (λ e. omega arith)
-      ∙ getD-set-other (replicate 79 0) 74 k 3 0 (λ e. omega arith) ∙ replicate-at 79 k 0
+      getD-set-other (set (replicate 80 0) 74 3) 0 k (word t 1) 0 (λ e. omega arith)
+      ∙ getD-set-other (replicate 80 0) 74 k 3 0 (λ e. omega arith) ∙ replicate-at 80 k 0
 
   written : Written t (set three 53 (word t 0))
   written =
@@ -115,10 +115,10 @@ module _ (t : List ℕ) (n : length t ≡ 54) (m : word t 1 ≤ 16) where
         counts = λ k l. high (75 + k) (omega arith) ∙ last-zeros k l;
       }
     where
-      last-zeros : (k : ℕ) → k < 4 → word one (75 + k) ≡ 0
+      last-zeros : (k : ℕ) → k < 5 → word one (75 + k) ≡ 0
       last-zeros k l =
-          getD-set-other (set (replicate 79 0) 74 3) 0 (75 + k) (word t 1) 0 (λ e. omega arith)
-          ∙ getD-set-other (replicate 79 0) 74 (75 + k) 3 0 (λ e. omega arith) ∙ replicate-at 79 (75 + k) 0
+          getD-set-other (set (replicate 80 0) 74 3) 0 (75 + k) (word t 1) 0 (λ e. omega arith)
+          ∙ getD-set-other (replicate 80 0) 74 (75 + k) 3 0 (λ e. omega arith) ∙ replicate-at 80 (75 + k) 0
 
 -- THE ENTRIES IN USE
 
@@ -194,6 +194,7 @@ module _ (t f : List ℕ) (m : word t 1 ≤ 16) (w : Written t f) where
         w .counts 1 (omega arith),
         w .counts 2 (omega arith),
         w .counts 3 (omega arith),
+        w .counts 4 (omega arith),
       )
 
   module _ (unit : word t 0 ≤ 255) (rights : regionsBounds t 6 ≡ true) where
@@ -216,7 +217,7 @@ module _ (t f : List ℕ) (m : word t 1 ≤ 16) (w : Written t f) where
     unfolding isBlock
     is-block =
         rw (
-          eq-eqb (length f) 79 (w .length-is),
+          eq-eqb (length f) 80 (w .length-is),
           rights-are,
           w .unit,
           le-leb (word t 0) 255 unit,
@@ -229,6 +230,7 @@ module _ (t f : List ℕ) (m : word t 1 ≤ 16) (w : Written t f) where
           w .counts 1 (omega arith),
           w .counts 2 (omega arith),
           w .counts 3 (omega arith),
+          w .counts 4 (omega arith),
         )
 
     block-is : blockOf (freshState (entriesUsed (regionsIn t 6) (word t 1)) (word t 1) (poolsIn t 2) (word t 0)) ≡ f
@@ -236,7 +238,7 @@ module _ (t f : List ℕ) (m : word t 1 ≤ 16) (w : Written t f) where
 
 -- START-UP
 
-none-block : blockOf noState ≡ set (replicate 79 0) 74 3
+none-block : blockOf noState ≡ set (replicate 80 0) 74 3
 unfolding blockOf runs
 none-block = refl
 
@@ -278,15 +280,15 @@ module _ (t : List ℕ) where
     unfolding lgStartUp
     other-table n = rw (ne-eqb (length t) 54 n) (refl, refl)
 
-    pub other-state : length t ≡ 54 → length b ≢ 79 → (17 ≡ lgStartUp t b .number) × (b ≡ lgStartUp t b .state)
+    pub other-state : length t ≡ 54 → length b ≢ 80 → (17 ≡ lgStartUp t b .number) × (b ≡ lgStartUp t b .state)
     unfolding lgStartUp
-    other-state n k = rw (eq-eqb (length t) 54 n, ne-eqb (length b) 79 k) (refl, refl)
+    other-state n k = rw (eq-eqb (length t) 54 n, ne-eqb (length b) 80 k) (refl, refl)
 
-    module _ (n : length t ≡ 54) (k : length b ≡ 79) (g : Bool) (eg : g ≡ goodTable t) (z : List ℕ) (ez : z ≡ blockOf noState) where
+    module _ (n : length t ≡ 54) (k : length b ≡ 80) (g : Bool) (eg : g ≡ goodTable t) (z : List ℕ) (ez : z ≡ blockOf noState) where
       pub not-taken : not g ≡ true → (17 ≡ lgStartUp t b .number) × (z ≡ lgStartUp t b .state)
       unfolding lgStartUp tableOf startUp
       not-taken h =
-          rw (eq-eqb (length t) 54 n, eq-eqb (length b) 79 k)
+          rw (eq-eqb (length t) 54 n, eq-eqb (length b) 80 k)
           (either (isTable t)
           (λ e. rw (e, broken (sym eg ∙ not-true g h) e) (refl, ez))
           (λ e. rw (e, no-table) (refl, ez)))
@@ -295,11 +297,11 @@ module _ (t : List ℕ) where
       unfolding lgStartUp tableOf startUp
       taken h f ef =
           let good : goodTable t ≡ true = sym eg ∙ not-false g h in
-          rw (eq-eqb (length t) 54 n, eq-eqb (length b) 79 k, is-table good, rules good)
+          rw (eq-eqb (length t) 54 n, eq-eqb (length b) 80 k, is-table good, rules good)
           (refl, ef ∙ ap (tableWritten t) ez ∙ sym (fresh-block good n))
 
 -- the writes of a table, one after the other
-module _ (t b : List ℕ) (n : length t ≡ 54) (k : length b ≡ 79) (m : word t 1 ≤ 16) where
+module _ (t b : List ℕ) (n : length t ≡ 54) (k : length b ≡ 80) (m : word t 1 ≤ 16) where
   pub all-written : (x u e : ℕ) → x ≡ word t 1 → u ≡ word t 0 → e ≡ 6 + 3 * x → (p q r s : List ℕ) → p ≡ set b 0 x
       → (1 + length (take (e - 6) (drop 6 t)) ≤ length p → q ≡ splice p 1 (take (e - 6) (drop 6 t)))
       → (49 + length (take 4 (drop 2 t)) ≤ length q → r ≡ splice q 49 (take 4 (drop 2 t)))
@@ -307,11 +309,11 @@ module _ (t b : List ℕ) (n : length t ≡ 54) (k : length b ≡ 79) (m : word 
   unfolding tableWritten
   all-written x u e ex eu ee p q r s ep hq hr es =
       let c : e - 6 ≡ 3 * word t 1 = omega arith in
-      let lp : length p ≡ 79 = ap length ep ∙ length-set b 0 x ∙ k in
+      let lp : length p ≡ 80 = ap length ep ∙ length-set b 0 x ∙ k in
       let lv : length (take (e - 6) (drop 6 t)) ≡ 3 * word t 1 = rw c (regions-length t n m) in
       let fit : 1 + length (take (e - 6) (drop 6 t)) ≤ length p = omega arith in
       let eq = hq fit in
-      let lq : length q ≡ 79 = ap length eq ∙ splice-length p 1 (take (e - 6) (drop 6 t)) fit ∙ lp in
+      let lq : length q ≡ 80 = ap length eq ∙ splice-length p 1 (take (e - 6) (drop 6 t)) fit ∙ lp in
       let lw = pools-length t n m in
       let er = hr (omega arith) in
       rw (es, er, eq, ep, c, ex, eu)

@@ -15,6 +15,7 @@ goodTable t = isTable t && startRules (regionsIn t 6) (word t 1) (poolsIn t 2) (
 abbrev pub wordRules : List ℕ → Bool
 wordRules b =
     leb (word b 53) 15 && leb (word b 74) 3 && leb (word b 75) 16383 && leb (word b 76) 16383 && leb (word b 77) 65535 && leb (word b 78) 65535
+    && leb (word b 79) 16383
 
 -- the two pools from word `at` on
 abbrev pub poolsRules : List Region → ℕ → List ℕ → ℕ → Bool

@@ -103,6 +103,7 @@ fn word_rules(b: &[u32]) -> bool
         & (word_at(b, 76) <= 16383)
         & (word_at(b, 77) <= 65535)
         & (word_at(b, 78) <= 65535)
+        & (word_at(b, 79) <= 16383)
 }
 
 // THE GOOD STATE
@@ -111,7 +112,7 @@ fn word_rules(b: &[u32]) -> bool
 pub fn good_words(b: &[u32]) -> usize
     ensures { λ w. ⌜ w ≡ goodWords (now (b .entry)) ⌝ }
 {
-    if b.len() != 79 {
+    if b.len() != 80 {
         return 0;
     }
     let n = word_at(b, 0) as usize;
@@ -162,7 +163,7 @@ fn put_zeros(b: &mut [u32])
 
 // The state of zero regions.
 fn put_none(b: &mut [u32])
-    requires { ⌜ length (now b) ≡ 79 ⌝ }
+    requires { ⌜ length (now b) ≡ 80 ⌝ }
     ensures { λ _. ⌜ now (b .exit) ≡ blockOf noState ⌝ }
 {
     put_zeros(b);
@@ -171,7 +172,7 @@ fn put_none(b: &mut [u32])
 
 // The regions in use, the pools and the unit of a table.
 fn put_table(t: &[u32], b: &mut [u32])
-    requires { ⌜ (length (now t) ≡ 54) × (length (now b) ≡ 79) × (word (now t) 1 ≤ 16) ⌝ }
+    requires { ⌜ (length (now t) ≡ 54) × (length (now b) ≡ 80) × (word (now t) 1 ≤ 16) ⌝ }
     ensures { λ _. ⌜ now (b .exit) ≡ tableWritten (now (t .entry)) (now (b .entry)) ⌝ }
 {
     let n = word_at(t, 1);
@@ -190,7 +191,7 @@ pub fn start_up(t: &[u32], b: &mut [u32]) -> Verdict
     if t.len() != 54 {
         return Verdict::Rejected(Refusal::BadTable);
     }
-    if b.len() != 79 {
+    if b.len() != 80 {
         return Verdict::Rejected(Refusal::BadTable);
     }
     put_none(b);

@@ -3,7 +3,7 @@
 use mathlib.Core.Path.{_≡_, refl, ap}
 use mathlib.Core.Logic.{_≢_}
 use mathlib.Core.List.{List, [], _∷_}
-use Prim.Native.Nat.{ℕ, zero, suc, _+_, _-_, _≤_, _<_}
+use Prim.Native.Nat.{ℕ, zero, suc, _+_, _-_, _≤_, _<_, max}
 use native.Mathlib.Omega.{arith}
 use lib.ListN.{length, drop, getD, length-drop, drop-of-length-le}
 use lib.Seq.{drop-cons, drop-drop}
@@ -11,15 +11,34 @@ use borrow.Author.Tests.{ne-eqb}
 use Rattle.lists.proofs.Tests.{either}
 use Rattle.rules.specs.Pools.{Block, blockOf, Walk, damaged, whole, after, blocksFrom}
 use Rattle.pool.specs.declared.Figures.{Figures}
+use Rattle.pool.specs.declared.Tally.{Tally}
 use Rattle.pool.specs.declared.Walked.{Walked}
 use Rattle.pool.specs.declared.Walked.the-variants.{Damaged, Whole}
-use Rattle.pool.specs.Answers.{figuresOf, walkedOf, together, counted}
+use Rattle.pool.specs.Answers.{figuresOf, walkedOf, tallied}
 
 -- FIGURES
 
-pub same-figures : {f g : Figures}
+-- the figures of some blocks and of others
+unfoldable pub together : Figures → Figures → Figures
+together f g =
+    record {
+      free = f .free + g .free;
+      freeblocks = f .freeblocks + g .freeblocks;
+      largest = max (f .largest) (g .largest);
+      used = f .used + g .used;
+      usedblocks = f .usedblocks + g .usedblocks;
+    }
+
+-- the figures with one more block
+abbrev pub counted : Figures → Block → Figures
+counted f b = together f (figuresOf (b ∷ []))
+
+same-figures : {f g : Figures}
     → (f .free ≡ g .free) × (f .freeblocks ≡ g .freeblocks) × (f .largest ≡ g .largest) × (f .used ≡ g .used) × (f .usedblocks ≡ g .usedblocks) → f ≡ g
 same-figures e = λ i. record { free = e .0 i; freeblocks = e .1 i; largest = e .2 i; used = e .3 i; usedblocks = e .4 i }
+
+pub same-tally : {t u : Tally} → (t .free ≡ u .free) × (t .freeblocks ≡ u .freeblocks) × (t .largest ≡ u .largest) × (t .blocks ≡ u .blocks) → t ≡ u
+same-tally e = λ i. record { free = e .0 i; freeblocks = e .1 i; largest = e .2 i; blocks = e .3 i }
 
 -- one more block is counted first, or with the others
 counted-first : (f : Figures) (b : Block) (bs : List Block) → together f (figuresOf (b ∷ bs)) ≡ together (counted f b) (figuresOf bs)
@@ -34,14 +53,22 @@ together-none : (f : Figures) → together f (figuresOf []) ≡ f
 unfolding together
 together-none f = same-figures (omega arith)
 
--- a block's words are free or used, and it is one block
-pub counted-words : (f : Figures) (b : Block) → counted f b .free + counted f b .used ≡ f .free + f .used + b .size
-unfolding together
-counted-words f b = either (b .used) (λ e. rw e (omega arith)) (λ e. rw e (omega arith))
+-- the figures that a tally tells once `at` words are passed: what is not free is used
+abbrev pub told : Tally → ℕ → Figures
+told t at = record { free = t .free; freeblocks = t .freeblocks; largest = t .largest; used = at - t .free; usedblocks = t .blocks - t .freeblocks }
 
-pub counted-blocks : (f : Figures) (b : Block) → counted f b .freeblocks + counted f b .usedblocks ≡ f .freeblocks + f .usedblocks + 1
-unfolding together
-counted-blocks f b = either (b .used) (λ e. rw e (omega arith)) (λ e. rw e (omega arith))
+module _ (t : Tally) (b : Block) (at : ℕ) (words : t .free ≤ at) (blocks : t .freeblocks ≤ t .blocks) where
+  pub told-next : told (tallied t b) (at + b .size) ≡ counted (told t at) b
+  unfolding together tallied
+  told-next = same-figures (either (b .used) (λ e. rw e (omega arith)) (λ e. rw e (omega arith)))
+
+  pub tallied-words : tallied t b .free ≤ at + b .size
+  unfolding tallied
+  tallied-words = either (b .used) (λ e. rw e (omega arith)) (λ e. rw e (omega arith))
+
+  pub tallied-blocks : (tallied t b .freeblocks ≤ tallied t b .blocks) × (tallied t b .blocks ≡ t .blocks + 1)
+  unfolding tallied
+  tallied-blocks = either (b .used) (λ e. rw e (omega arith)) (λ e. rw e (omega arith))
 
 -- THE FIGURES SO FAR AND A WALK
 

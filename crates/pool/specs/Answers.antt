@@ -5,6 +5,7 @@ use Rattle.wire.specs.Bytes.{be}
 use Rattle.rules.specs.Packets.{primaryHeader, identity}
 use Rattle.rules.specs.Pools.{Block, Walk, damaged, whole, isFree, isUsed, words, blocks, largest, replyApid, replyLength}
 use Rattle.pool.specs.declared.Figures.{Figures}
+use Rattle.pool.specs.declared.Tally.{Tally}
 use Rattle.pool.specs.declared.Walked.{Walked}
 use Rattle.pool.specs.declared.Walked.the-variants.{Damaged, Whole}
 
@@ -22,20 +23,15 @@ abbrev pub walkedOf : Walk → Walked
 walkedOf damaged = Damaged
 walkedOf (whole bs) = Whole (figuresOf bs)
 
--- the figures of some blocks and of others
-unfoldable pub together : Figures → Figures → Figures
-together f g =
+-- what the walk carries, with one more block
+unfoldable pub tallied : Tally → Block → Tally
+tallied t b =
     record {
-      free = f .free + g .free;
-      freeblocks = f .freeblocks + g .freeblocks;
-      largest = max (f .largest) (g .largest);
-      used = f .used + g .used;
-      usedblocks = f .usedblocks + g .usedblocks;
+      free = t .free + words isFree (b ∷ []);
+      freeblocks = t .freeblocks + blocks isFree (b ∷ []);
+      largest = max (t .largest) (largest isFree (b ∷ []));
+      blocks = t .blocks + 1;
     }
-
--- the figures with one more block
-abbrev pub counted : Figures → Block → Figures
-counted f b = together f (figuresOf (b ∷ []))
 
 -- THE REPLY, over the figures: the primary header, who answers which command about which pool, the figures
 

@@ -6,7 +6,7 @@ ghost use lib.ListN.{length};
 ghost use Rattle.lists.specs.Splice.{splice};
 ghost use Rattle.wire.specs.Bytes.{wordBytes};
 ghost use Rattle.rules.specs.Pools.{blockOf, blocksOf};
-ghost use Rattle.pool.specs.Answers.{counted, walkedOf, figureBytes};
+ghost use Rattle.pool.specs.Answers.{tallied, walkedOf, figureBytes};
 use wire::put_words;
 
 // Free words, free blocks, size of the largest free block; used words, used blocks.
@@ -23,6 +23,14 @@ pub enum Walked {
     Whole(Figures),
 }
 
+// What the walk carries: the free blocks' figures, and how many blocks there are. What is used is the rest of the words and blocks passed.
+struct Tally {
+    free: usize,
+    freeblocks: usize,
+    largest: usize,
+    blocks: usize,
+}
+
 // n or 0. A block is used or free by chance, so that a branch here would be guessed wrong half the time; this compiles to none.
 fn picked(taken: bool, n: usize) -> usize
     ensures { λ r. ⌜ (r ≡ cond taken n 0) × (r ≤ n) ⌝ }
@@ -30,27 +38,24 @@ fn picked(taken: bool, n: usize) -> usize
     if taken { n } else { 0 }
 }
 
-// The figures with the block that begins with word `w`. The sums are at most the words passed, so they fit.
-fn count_block(f: Figures, w: u32) -> Figures
-    requires { ⌜ (f .free + f .used + blockOf w .size < 18446744073709551616) × (f .freeblocks + f .usedblocks + 1 < 18446744073709551616) ⌝ }
-    ensures { λ r. ⌜ r ≡ counted f (blockOf w) ⌝ }
+// The tally with the block that begins with word `w`. The sums are at most the words passed, so they fit.
+fn count_block(t: Tally, w: u32) -> Tally
+    requires { ⌜ (t .free + blockOf w .size < 18446744073709551616) × (t .freeblocks + 1 < 18446744073709551616) × (t .blocks + 1 < 18446744073709551616) ⌝ }
+    ensures { λ r. ⌜ r ≡ tallied t (blockOf w) ⌝ }
 {
     let size = (w % 2147483648) as usize;
     let used = 2147483648 <= w;
     let freesize = picked(!used, size);
     let freeone = picked(!used, 1);
-    let usedsize = picked(used, size);
-    let usedone = picked(used, 1);
-    let mut largest = f.largest;
+    let mut largest = t.largest;
     if largest < freesize {
         largest = freesize;
     }
-    Figures {
-        free: f.free + freesize,
-        freeblocks: f.freeblocks + freeone,
+    Tally {
+        free: t.free + freesize,
+        freeblocks: t.freeblocks + freeone,
         largest: largest,
-        used: f.used + usedsize,
-        usedblocks: f.usedblocks + usedone,
+        blocks: t.blocks + 1,
     }
 }
 
@@ -58,12 +63,11 @@ fn count_block(f: Figures, w: u32) -> Figures
 pub fn walk_pool(pool: &[u32]) -> Walked
     ensures { λ r. ⌜ r ≡ walkedOf (blocksOf (now (pool .entry))) ⌝ }
 {
-    let mut f = Figures {
+    let mut t = Tally {
         free: 0,
         freeblocks: 0,
         largest: 0,
-        used: 0,
-        usedblocks: 0,
+        blocks: 0,
     };
     let mut at = 0;
     while at < pool.len() {
@@ -75,10 +79,16 @@ pub fn walk_pool(pool: &[u32]) -> Walked
         if pool.len() - at < size {
             return Walked::Damaged;
         }
-        f = count_block(f, w);
+        t = count_block(t, w);
         at = at + size;
     }
-    Walked::Whole(f)
+    Walked::Whole(Figures {
+        free: t.free,
+        freeblocks: t.freeblocks,
+        largest: t.largest,
+        used: at - t.free,
+        usedblocks: t.blocks - t.freeblocks,
+    })
 }
 
 // The reply as eight words, each number cut to its field.

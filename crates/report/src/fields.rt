@@ -1,10 +1,13 @@
 // The fields of packets.
+use crate::form::after;
+use crate::form::front;
 use crate::form::say;
 use crate::form::text;
 use rules::Command;
 use rules::DumpPacket;
 use rules::Header;
 use rules::Request;
+use rules::SymbolRequest;
 use rules::Telecommand;
 use wire::get32;
 
@@ -34,19 +37,38 @@ fn pool(i: u64) {
     say(b"\npool statistics of pool %", 0, [i, 0, 0]);
 }
 
-fn command(k: Command) {
+fn symbol(what: &[u8], name: &[u8]) {
+    text(what);
+    text(b" of symbol ");
+    text(name);
+}
+
+fn by_name(q: SymbolRequest, name: &[u8]) {
+    let one = q.size == 1;
+    say(
+        b"\ndump % words at offset # from symbol |\ndump % word at offset # from symbol ",
+        one as usize,
+        [q.size as u64, q.offset as u64, 0],
+    );
+    text(name);
+}
+
+// A command and its fields. A symbol's name stands in the packet from byte 12 on.
+fn command(k: Command, p: &[u8]) {
     match k {
         Command::Dump(q) => request(b"\ndump", q),
         Command::Cancel => text(b"\ncancel"),
         Command::Load(q) => request(b"\nload", q),
         Command::PoolStatistics(i) => pool(i as u64),
+        Command::SymbolValue(n) => symbol(b"\nvalue", front(after(p, 12), n as usize)),
+        Command::DumpSymbol(q) => by_name(q, front(after(p, 12), q.name as usize)),
     }
 }
 
 // A command packet's fields.
-pub fn telecommand(f: Telecommand) {
+pub fn telecommand(f: Telecommand, p: &[u8]) {
     let k = f.command;
-    command(k);
+    command(k, p);
     let h = f.header;
     header(h);
 }
@@ -60,6 +82,11 @@ pub fn dump_fields(f: DumpPacket) {
     say(b", tick %", 0, [f.tick as u64, 0, 0]);
     let h = f.header;
     header(h);
+}
+
+// The value that a reply tells.
+pub fn value(reply: &[u8]) {
+    say(b"\n  value #", 0, [get32(reply, 8) as u64, 0, 0]);
 }
 
 // The five figures of a reply.

@@ -1,5 +1,21 @@
 // Text with numbers in it, bytes in hex, and result numbers.
+ghost use mathlib.Core.Path.{_≡_};
 ghost use Prim.Native.Nat.{_≤_};
+ghost use lib.ListN.{take, drop};
+
+// The first n bytes, or all where there are fewer.
+pub fn front(p: &[u8], n: usize) -> &[u8]
+    ensures { λ r. ⌜ now r ≡ take n (now (p .entry)) ⌝ }
+{
+    if n < p.len() { &p[..n] } else { p }
+}
+
+// The bytes after the first n.
+pub fn after(p: &[u8], n: usize) -> &[u8]
+    ensures { λ r. ⌜ now r ≡ drop n (now (p .entry)) ⌝ }
+{
+    if n < p.len() { &p[n..] } else { &p[0..0] }
+}
 
 pub fn text(s: &[u8]) {
     io::write_all(1, s);
@@ -89,7 +105,8 @@ pub fn result(n: u32) {
         |no busy dump has that number\
         |pool blocks damaged\
         |no dump is busy\
-        |table, pools or unit break a rule",
+        |table, pools or unit break a rule, or no symbol table\
+        |no such symbol",
         n as usize,
         [0; 3],
     );

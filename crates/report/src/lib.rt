@@ -2,13 +2,13 @@
 mod fields;
 mod form;
 
-ghost use mathlib.Core.Path.{_≡_};
-ghost use lib.ListN.{take};
 use command_reader::read_command;
 use fields::dump_fields;
 use fields::figures;
 use fields::telecommand;
+use fields::value;
 use form::bytes;
+pub use form::front;
 pub use form::result;
 pub use form::say;
 use packet_reader::read_packet;
@@ -20,19 +20,12 @@ use rules::Answer;
 use rules::PacketReading;
 use rules::Reading;
 
-// The first n bytes, or all where there are fewer.
-pub fn front(p: &[u8], n: usize) -> &[u8]
-    ensures { λ r. ⌜ now r ≡ take n (now (p .entry)) ⌝ }
-{
-    if n < p.len() { &p[..n] } else { p }
-}
-
 // A command packet: its fields as they are read back, and its bytes.
 pub fn show_command(p: &[u8]) {
     let read = read_command(p);
     let reading = read.reading;
     match reading {
-        Reading::Read(f) => telecommand(f),
+        Reading::Read(f) => telecommand(f, p),
         Reading::Unread(r) => result(refusal_number(r)),
     }
     bytes(p);
@@ -44,7 +37,15 @@ fn more(n: usize) {
     }
 }
 
-// A dump packet's fields and first bytes, or a reply's bytes and figures.
+fn tells(reply: &[u8]) {
+    if reply.len() == 12 {
+        value(reply);
+    } else {
+        figures(reply);
+    }
+}
+
+// A dump packet's fields and first bytes, or a reply's bytes and what it tells: a symbol's value in 12 bytes, or a pool's figures.
 fn show_packet(p: &[u8]) {
     let reading = read_packet(p);
     match reading {
@@ -54,7 +55,7 @@ fn show_packet(p: &[u8]) {
     bytes(front(p, 48));
     more(p.len());
     if packet_number(reading) != 0 {
-        figures(p);
+        tells(p);
     }
 }
 

@@ -30,6 +30,7 @@ pub fn refusal_number(r: Refusal) -> u32
         Refusal::PoolDamaged => 15,
         Refusal::NothingToSend => 16,
         Refusal::BadTable => 17,
+        Refusal::UnknownSymbol => 18,
     }
 }
 

@@ -1,4 +1,4 @@
--- A command is accepted exactly when the layouts, the unit, the region table, the places and the blocks allow it.
+-- A command is accepted exactly when the layouts, the unit, the region table, the places, the blocks and the symbol table allow it.
 -- Assumes nothing.
 use mathlib.Core.Path.{_≡_, refl}
 use mathlib.Core.Logic.{_↔_}
@@ -15,7 +15,7 @@ use Rattle.rules.specs.declared.Decoded.{Decoded}
 use Rattle.rules.specs.declared.Decoded.the-variants.{Unknown}
 use Rattle.rules.specs.declared.State.{State}
 use Rattle.rules.proofs.Passed.{Tested, Passed, passed-out, passed-in, tests-of}
-use Rattle.rules.proofs.Allowed.{box-out, box-in, decode-dump, decode-cancel, decode-load, decode-pool, decode-other, dump-out, dump-in, cancel-out, cancel-in, load-out, load-in, pool-out, pool-in}
+use Rattle.rules.proofs.Allowed.{box-out, box-in, decode-dump, decode-cancel, decode-load, decode-pool, decode-value, decode-by-name, decode-other, dump-out, dump-in, cancel-out, cancel-in, load-out, load-in, pool-out, pool-in, value-out, value-in, by-name-out, by-name-in}
 
 module _ (s : State) (c : CommandArgs) (good : goodState s ≡ true) (image : length (c .image) ≡ imageLength (s .regions) (s .count))
     (reply : 32 ≤ length (c .reply)) where
@@ -38,5 +38,7 @@ module _ (s : State) (c : CommandArgs) (good : goodState s ≡ true) (image : le
         cancel = λ e. when _ (decode-cancel (c .packet) e) (cancel-out s c) (cancel-in s c);
         load = λ e. when _ (decode-load (c .packet) e) (load-out s c) (load-in s c);
         pool = λ e. when _ (decode-pool (c .packet) e) (pool-out s c) (pool-in s c);
-        other = λ n₀ n₁ n₄ n₇ h. contra refl (tests-of s c Unknown (decode-other (c .packet) n₀ n₁ n₄ n₇) h .known);
+        value = λ e. when _ (decode-value (c .packet) e) (value-out s c) (value-in s c);
+        by-name = λ e b. when _ (decode-by-name (c .packet) e) (by-name-out s c b) (by-name-in s c);
+        other = λ n₀ n₁ n₄ n₇ n₈ n₉ h. contra refl (tests-of s c Unknown (decode-other (c .packet) n₀ n₁ n₄ n₇ n₈ n₉) h .known);
       }

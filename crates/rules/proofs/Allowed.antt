@@ -1,31 +1,39 @@
 -- What the tests of each command say, by function code: what must allow it.
 -- Assumes nothing.
-use mathlib.Core.Path.{_≡_, refl, ap}
+use mathlib.Core.Path.{_≡_, refl, sym, ap, _∙_}
 use mathlib.Core.Logic.{_≢_}
 use mathlib.Core.Bool.{Bool, true, _&&_, not}
 use mathlib.Core.List.{List}
 use Prim.Native.Nat.{ℕ, _+_}
+use native.Mathlib.Omega.{arith}
 use lib.Dec.{leb, eqb}
-use lib.ListN.{length}
+use lib.ListN.{length, getD}
 use borrow.Author.Tests.{leb-true, le-leb, eqb-true, eqb-false, eq-eqb, ne-eqb, not-false}
 use Rattle.lists.proofs.Tests.{contra, and-left, and-right, and-both}
 use Rattle.lists.proofs.Below.{any-of, any-at, none-of, none-at}
+use Rattle.wire.specs.Bytes.{AreBytes, beAt}
+use Rattle.wire.specs.ByByte.{two, four}
 use Rattle.wire.specs.Xor.{xorAll}
+use Rattle.wire.proofs.ByByte.{at-two, at-four}
+use Rattle.symbols.specs.Table.{symbolTable, hasName, valueOf}
 use Rattle.rules.specs.Regions.{aligned, loadRight, dumpRight}
 use Rattle.rules.specs.States.{contextAt, busyWith}
-use Rattle.rules.specs.Packets.{versionOf, typeOf, secondHeaderOf, sequenceFlagsOf, lengthFieldOf, zeroBitOf, primaryRules, wellFormed, apidOf, functionCodeOf, requestOf, decode, fieldRules, commandUnit, commandTransaction}
+use Rattle.rules.specs.Packets.{versionOf, typeOf, secondHeaderOf, sequenceFlagsOf, lengthFieldOf, zeroBitOf, primaryRules, wellFormed, apidOf, functionCodeOf, requestOf, nameSizeOf, symbolRequestOf, decode, nameFits, fieldRules, zeroRules, nameIn, commandUnit, commandTransaction}
 use Rattle.rules.specs.Pools.{blocksOf, isDamaged}
-use Rattle.rules.specs.Commands.{CommandArgs, isIdle, anyWith, anyIdle, poolWords}
-use Rattle.rules.specs.Demand2.{ForThisBox, DumpAllowed, CancelAllowed, LoadAllowed, PoolAllowed}
-use Rattle.rules.specs.Cases.{Formed, rangeOf, poolOf}
+use Rattle.rules.specs.Values.{addressFits, addressOf, Reached}
+use Rattle.rules.specs.Commands.{CommandArgs, rangeBy, isIdle, anyWith, anyIdle, poolWords}
+use Rattle.rules.specs.Demand2.{ForThisBox, DumpAllowed, CancelAllowed, LoadAllowed, PoolAllowed, SymbolNamed, ValueAllowed, ByNameAllowed}
+use Rattle.rules.specs.Cases.{Formed, rangeOf, rangeFrom, poolOf, NameAllowed}
 use Rattle.rules.specs.declared.Context.{Context}
 use Rattle.rules.specs.declared.Context.the-variants.{Idle, Busy}
-use Rattle.rules.specs.declared.Command.the-variants.{Dump, Cancel, Load, PoolStatistics}
+use Rattle.rules.specs.declared.Command.the-variants.{Dump, Cancel, Load, PoolStatistics, SymbolValue, DumpSymbol}
 use Rattle.rules.specs.declared.Decoded.the-variants.{Unknown, Known}
 use Rattle.rules.specs.declared.State.{State}
 use Rattle.rules.proofs.Table.{one-out, one-in, one-any}
 use Rattle.rules.proofs.Pools.{blocks-tiles, tiles-blocks}
 use Rattle.rules.proofs.Passed.{Tested, undamaged}
+use Rattle.symbols.proofs.Logic.{table-when, resolves-when}
+use Rattle.rules.proofs.Offsets.{reached-is, reached-fits, fits-reached, offset-fits}
 
 -- THE LAYOUT OF EVERY COMMAND
 
@@ -96,10 +104,20 @@ module _ (p : List ℕ) where
   unfolding decode
   decode-pool e = rw e
 
-  pub decode-other : functionCodeOf p ≢ 0 → functionCodeOf p ≢ 1 → functionCodeOf p ≢ 4 → functionCodeOf p ≢ 7 → decode p ≡ Unknown
+  pub decode-value : functionCodeOf p ≡ 8 → decode p ≡ Known (SymbolValue (nameSizeOf p))
   unfolding decode
-  decode-other a b c d =
-      rw (ne-eqb (functionCodeOf p) 0 a, ne-eqb (functionCodeOf p) 1 b, ne-eqb (functionCodeOf p) 4 c, ne-eqb (functionCodeOf p) 7 d)
+  decode-value e = rw e
+
+  pub decode-by-name : functionCodeOf p ≡ 9 → decode p ≡ Known (DumpSymbol (symbolRequestOf p))
+  unfolding decode
+  decode-by-name e = rw e
+
+  pub decode-other : functionCodeOf p ≢ 0 → functionCodeOf p ≢ 1 → functionCodeOf p ≢ 4 → functionCodeOf p ≢ 7
+      → functionCodeOf p ≢ 8 → functionCodeOf p ≢ 9 → decode p ≡ Unknown
+  unfolding decode
+  decode-other a b c d e f =
+      let k = functionCodeOf p in
+      rw (ne-eqb k 0 a, ne-eqb k 1 b, ne-eqb k 4 c, ne-eqb k 7 d, ne-eqb k 8 e, ne-eqb k 9 f)
 
 -- WHAT ALLOWS EACH COMMAND
 
@@ -136,6 +154,9 @@ module _ (s : State) (c : CommandArgs) where
       record {
         known = refl;
         bytes = ap not (eq-eqb _ _ (a .bytes));
+        table = refl;
+        named = refl;
+        range = refl;
         fields = ap not (and-both (eq-eqb _ _ (a .aligned)) (le-leb _ _ (a .some)));
         inside = ap not (one-any dumpRight (s .regions) (s .count) (rangeOf (c .packet)) r);
         right = ap not r;
@@ -159,6 +180,9 @@ module _ (s : State) (c : CommandArgs) where
       record {
         known = refl;
         bytes = ap not (eq-eqb _ _ (a .bytes));
+        table = refl;
+        named = refl;
+        range = refl;
         fields = refl;
         inside = refl;
         right = refl;
@@ -191,6 +215,9 @@ module _ (s : State) (c : CommandArgs) where
       record {
         known = refl;
         bytes = ap not (eq-eqb _ _ (a .bytes));
+        table = refl;
+        named = refl;
+        range = refl;
         fields = ap not (and-both (and-both (eq-eqb _ _ (a .aligned)) (le-leb _ _ (a .some))) (le-leb _ _ (a .most)));
         inside = ap not (one-any loadRight (s .regions) (s .count) (rangeOf (c .packet)) r);
         right = ap not r;
@@ -217,6 +244,9 @@ module _ (s : State) (c : CommandArgs) where
       record {
         known = refl;
         bytes = ap not (eq-eqb _ _ (a .bytes));
+        table = refl;
+        named = refl;
+        range = refl;
         fields = ap not (le-leb _ _ (a .pool));
         inside = ne-eqb _ _ (a .there);
         right = refl;
@@ -224,4 +254,145 @@ module _ (s : State) (c : CommandArgs) where
         place = refl;
         busy = refl;
         blocks = ap isDamaged (tiles-blocks (a .blocks .1));
+      }
+
+  -- the value of the name in the packet
+  abbrev valueNamed : ℕ
+  valueNamed = valueOf (c .symbols) (nameIn (c .packet))
+
+  -- a symbol that a command names: the tests that say that the table has it
+  symbol-out : (n : ℕ) → length (c .packet) ≡ n → NameAllowed (c .packet) → symbolTable (c .symbols) ≡ true
+      → hasName (c .symbols) (nameIn (c .packet)) ≡ true → SymbolNamed c n valueNamed
+  unfolding nameIn
+  symbol-out n b a t h =
+      let i = table-when (c .symbols) .0 t in
+      record { bytes = b; table = i; allowed = a; named = resolves-when (c .symbols) _ _ i .1 (h, refl) }
+
+  symbol-in : {n v : ℕ} → SymbolNamed c n v
+      → (symbolTable (c .symbols) ≡ true) × (hasName (c .symbols) (nameIn (c .packet)) ≡ true) × (valueNamed ≡ v)
+  unfolding nameIn
+  symbol-in x =
+      let r = resolves-when (c .symbols) _ _ (x .table) .0 (x .named) in
+      (table-when (c .symbols) .1 (x .table), r .0, r .1)
+
+  -- what it resolves to is its value
+  pub value-named : {n v : ℕ} → SymbolNamed c n v → valueOf (c .symbols) (nameIn (c .packet)) ≡ v
+  value-named x = symbol-in x .2
+
+  -- the size of a name and its pad
+  name-out : nameFits (nameSizeOf (c .packet)) ≡ true → eqb (getD (c .packet) 11 0) 0 ≡ true → NameAllowed (c .packet)
+  name-out f z =
+      let a = leb 1 (nameSizeOf (c .packet)) in
+      let b = leb (nameSizeOf (c .packet)) 48 in
+      (leb-true _ _ (and-left a b f), leb-true _ _ (and-right a b f), eqb-true _ _ z)
+
+  name-in : NameAllowed (c .packet) → (nameFits (nameSizeOf (c .packet)) ≡ true) × (eqb (getD (c .packet) 11 0) 0 ≡ true)
+  name-in a = (and-both (le-leb _ _ (a .0)) (le-leb _ _ (a .1)), eq-eqb _ _ (a .2))
+
+  pub value-out : Tested s c (Known (SymbolValue (nameSizeOf (c .packet)))) → ValueAllowed c
+  unfolding zeroRules
+  value-out t =
+      let m = nameFits (nameSizeOf (c .packet)) in
+      let z = eqb (getD (c .packet) 11 0) 0 in
+      let f = not-false (m && z) (t .fields) in (
+        valueNamed,
+        symbol-out 60 (eqb-true _ _ (not-false _ (t .bytes))) (name-out (and-left m z f) (and-right m z f))
+            (not-false _ (t .table)) (not-false _ (t .named)),
+      )
+
+  pub value-in : ValueAllowed c → Tested s c (Known (SymbolValue (nameSizeOf (c .packet))))
+  unfolding zeroRules
+  value-in a =
+      let x = symbol-in (a .1) in
+      let n = name-in (a .1 .allowed) in
+      record {
+        known = refl;
+        bytes = ap not (eq-eqb _ _ (a .1 .bytes));
+        table = ap not (x .0);
+        fields = ap not (and-both (n .0) (n .1));
+        named = ap not (x .1);
+        range = refl;
+        inside = refl;
+        right = refl;
+        new = refl;
+        place = refl;
+        busy = refl;
+        blocks = refl;
+      }
+
+  -- the address that a dump by name reaches, and its range
+  abbrev addressNamed : ℕ
+  addressNamed = addressOf valueNamed (four (c .packet) 60)
+
+  range-by : rangeBy (c .symbols) (nameIn (c .packet)) (symbolRequestOf (c .packet)) ≡ rangeFrom (c .packet) addressNamed
+  range-by = rw (at-four (c .packet) 60, at-two (c .packet) 64)
+
+  address-named : {n v a : ℕ} → SymbolNamed c n v → Reached v (four (c .packet) 60) a → addressNamed ≡ a
+  address-named x r = rw (value-named x) (reached-is r)
+
+  pub range-named : {n v a : ℕ} → SymbolNamed c n v → Reached v (four (c .packet) 60) a
+      → rangeBy (c .symbols) (nameIn (c .packet)) (symbolRequestOf (c .packet)) ≡ rangeFrom (c .packet) a
+  range-named x r = range-by ∙ ap (rangeFrom (c .packet)) (address-named x r)
+
+  -- what the second 9 tests of them
+  abbrev rangeAllowed : Bool
+  rangeAllowed = addressFits valueNamed (four (c .packet) 60) && aligned (rangeFrom (c .packet) addressNamed) && leb 1 (two (c .packet) 64)
+
+  pub by-name-out : AreBytes (c .packet) → Tested s c (Known (DumpSymbol (symbolRequestOf (c .packet)))) → ByNameAllowed s c
+  unfolding zeroRules anyWith anyIdle
+  by-name-out bytes t =
+      let p = c .packet in
+      let m = nameFits (nameSizeOf p) in
+      let z = eqb (getD p 11 0) 0 in
+      let w = eqb (beAt 2 p 66) 0 in
+      let f = not-false (m && (z && w)) (t .fields) in
+      let zeros = and-right m (z && w) f in
+      let fits = addressFits valueNamed (four p 60) in
+      let whole = aligned (rangeFrom p addressNamed) in
+      let one = leb 1 (two p 64) in
+      let g = not-false rangeAllowed (rw (at-four p 60, at-two p 64) at (t .range)) in
+      let h = and-left (fits && whole) one g in
+      let low = offset-fits p bytes in
+      let reached = fits-reached valueNamed (four p 60) (omega arith) (and-left fits whole h) in
+      let i = any-at (idleAt s) 4 (not-false _ (t .place)) in
+      record {
+        v = valueNamed;
+        symbol =
+            symbol-out 68 (eqb-true _ _ (not-false _ (t .bytes))) (name-out (and-left m (z && w) f) (and-left z w zeros))
+            (not-false _ (t .table)) (not-false _ (t .named));
+        zeros = sym (at-two p 66) ∙ eqb-true _ _ (and-right z w zeros);
+        a = addressNamed;
+        reached = reached .0;
+        below = reached .1;
+        aligned = eqb-true _ _ (and-right fits whole h);
+        some = leb-true _ _ (and-right (fits && whole) one g);
+        region = one-out dumpRight (s .regions) (s .count) (rangeFrom p addressNamed) (not-false _ (rw range-by at (t .right)));
+        number = λ i l. none-at (numberAt s c) 4 (t .new) l;
+        place = (i .0, i .1, idle-out _ (i .2));
+      }
+
+  pub by-name-in : ByNameAllowed s c → Tested s c (Known (DumpSymbol (symbolRequestOf (c .packet))))
+  unfolding zeroRules anyWith anyIdle
+  by-name-in a =
+      let p = c .packet in
+      let x = symbol-in (a .symbol) in
+      let n = name-in (a .symbol .allowed) in
+      let e = address-named (a .symbol) (a .reached) in
+      let q = range-named (a .symbol) (a .reached) in
+      let r = one-in dumpRight (s .regions) (s .count) (rangeFrom p (a .a)) (a .region .0) (a .region .1) in
+      let fits : addressFits valueNamed (four p 60) ≡ true = rw (x .2) (reached-fits (a .reached) (a .below)) in
+      let whole : aligned (rangeFrom p addressNamed) ≡ true = rw e (eq-eqb _ _ (a .aligned)) in
+      record {
+        known = refl;
+        bytes = ap not (eq-eqb _ _ (a .symbol .bytes));
+        table = ap not (x .0);
+        fields = ap not (and-both (n .0) (and-both (n .1) (eq-eqb _ _ (at-two p 66 ∙ a .zeros))));
+        named = ap not (x .1);
+        range = rw (at-four p 60, at-two p 64) (ap not (and-both (and-both fits whole) (le-leb _ _ (a .some))));
+        inside = rw q (ap not (one-any dumpRight (s .regions) (s .count) (rangeFrom p (a .a)) r));
+        right = rw q (ap not r);
+        new = none-of (numberAt s c) 4 (a .number);
+        place = ap not (any-of (idleAt s) 4 (a .place .1) (ap isIdle (a .place .2)));
+        busy = refl;
+        blocks = refl;
       }

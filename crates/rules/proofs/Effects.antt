@@ -1,4 +1,4 @@
--- An accepted command does exactly what paper 01 says.
+-- An accepted command does exactly what papers 01 and 02 (A2) say.
 -- Assumes nothing.
 use mathlib.Core.Path.{_≡_, refl, ap, _∙_}
 use mathlib.Core.Bool.{true}
@@ -7,32 +7,36 @@ use Prim.Native.Nat.{ℕ, _+_, _*_, _≤_, _<_}
 use native.Mathlib.Omega.{arith}
 use lib.ListN.{length, getD, take, length-set}
 use lib.Seq.{length-take-le, getD-take}
+use Rattle.lists.specs.Splice.{splice}
 use Rattle.lists.proofs.Tests.{contra}
 use Rattle.lists.proofs.Below.{any-of, first-found, first-before}
 use Rattle.lists.proofs.Splice.{splice-length, splice-in, splice-below, splice-above, splice-front, splice-rest}
 use Rattle.wire.specs.ByByte.{four}
-use Rattle.wire.proofs.ByByte.{at-four}
+use Rattle.wire.proofs.ByByte.{at-four, in-four}
+use Rattle.wire.proofs.Numbers.{be-back}
 use Rattle.wire.proofs.Words.{words-at-length, words-at-word}
 use Rattle.rules.specs.Regions.{anyRight, loadRight, dumpRight, inOneRegion, imageIndex}
 use Rattle.rules.specs.States.{poolAt}
-use Rattle.rules.specs.Packets.{decode, requestOf, commandTransaction, dataWords}
+use Rattle.rules.specs.Packets.{decode, nameIn, commandTransaction, dataWords}
 use Rattle.rules.specs.Pools.{Block, whole, replyBytes}
-use Rattle.rules.specs.Commands.{CommandArgs, isIdle, firstIdle, firstWith, setContext, poolWords, replied, carryOut, commandCall}
-use Rattle.rules.specs.Demand2.{IsAccepted, OnePlace, DumpAllowed, DumpDone, CancelAllowed, CancelDone, LoadAllowed, LoadDone, PoolAllowed, PoolDone, Effects}
-use Rattle.rules.specs.Cases.{rangeOf, poolOf}
-use Rattle.rules.specs.declared.Command.the-variants.{Dump, Cancel, Load, PoolStatistics}
+use Rattle.rules.specs.Values.{valueBytes}
+use Rattle.rules.specs.Commands.{CommandArgs, taskOf, isIdle, firstIdle, firstWith, setContext, poolWords, replied, carryOut, commandCall}
+use Rattle.rules.specs.Demand2.{IsAccepted, OnePlace, DumpDone, CancelAllowed, CancelDone, LoadAllowed, LoadDone, PoolAllowed, PoolDone, TelemetryHeader, SymbolNamed, ValueDone, ByNameAllowed, ByNameDone, Effects}
+use Rattle.rules.specs.Cases.{rangeOf, rangeFrom, poolOf, PlaceFree}
 use Rattle.rules.specs.declared.Context.{Context}
 use Rattle.rules.specs.declared.Decoded.{Decoded}
-use Rattle.rules.specs.declared.Decoded.the-variants.{Known}
 use Rattle.rules.specs.declared.Place.{Place}
+use Rattle.rules.specs.declared.Range.{Range}
 use Rattle.rules.specs.declared.State.{State}
+use Rattle.rules.specs.declared.Task.the-variants.{DumpRange, CancelDump, LoadRange, CountPool, TellValue}
+use Rattle.symbols.proofs.Logic.{value-fits}
 use Rattle.rules.proofs.Table.{holds-any, one-out, one-in, one-any, image-fits, range-low, words-length}
 use Rattle.rules.proofs.Located.{lies-from, lies-index}
 use Rattle.rules.proofs.Good.{GoodIs, good-out, context-same, context-other}
 use Rattle.rules.proofs.Rules.{StartIs, start-out, pool-out as rules-pool}
 use Rattle.rules.proofs.Pools.{tiles-blocks, tiles-words, figures-fit, reply-figures, reply-head, reply-pool}
 use Rattle.rules.proofs.Passed.{Passed, passed-out, accepted-call, tests-of}
-use Rattle.rules.proofs.Allowed.{decode-dump, decode-cancel, decode-load, decode-pool, dump-out, cancel-out, load-out, pool-out, idle-out, idleAt, numberAt}
+use Rattle.rules.proofs.Allowed.{decode-dump, decode-cancel, decode-load, decode-pool, decode-value, decode-by-name, dump-out, cancel-out, load-out, pool-out, value-out, by-name-out, value-named, range-named, idle-out, idleAt, numberAt}
 
 -- one place of four set
 one-place : (ps : List Place) (i : ℕ) (a : Context) → i < 4 → length ps ≡ 4 → OnePlace ps i (setContext ps i a)
@@ -46,10 +50,25 @@ module _ (p : List ℕ) (n : ℕ) (most : n ≤ 11) where
   load-word : (k : ℕ) → k < n → getD (take n (dataWords p)) k 0 ≡ four p (16 + 4 * k)
   load-word k l = getD-take n (dataWords p) k 0 l ∙ words-at-word 11 p 16 k (omega arith) ∙ at-four p (16 + 4 * k)
 
--- a reply is 32 bytes long
+-- a reply with figures is 32 bytes long
 reply-length : (count unit transaction pool : ℕ) (bs : List Block) → length (replyBytes count unit transaction pool bs) ≡ 32
 unfolding replyBytes
 reply-length count unit transaction pool bs = refl
+
+-- A REPLY WITH A VALUE
+
+module _ (count unit t v : ℕ) where
+  value-length : length (valueBytes count unit t v) ≡ 12
+  unfolding valueBytes
+  value-length = refl
+
+  value-head : count ≤ 16383 → unit ≤ 15 → t ≤ 4095 → TelemetryHeader 786 count unit t (valueBytes count unit t v)
+  unfolding valueBytes
+  value-head hc hu ht = record { kind = refl; sequence = omega arith; length-field = refl; identity = omega arith }
+
+  value-word : (buffer : List ℕ) → v < 4294967296 → four (splice buffer 0 (valueBytes count unit t v)) 8 ≡ v
+  unfolding splice valueBytes
+  value-word buffer h = in-four (splice buffer 0 (valueBytes count unit t v)) 8 v (be-back 4 v h)
 
 module _ (s : State) (c : CommandArgs) (h : IsAccepted s c) where
   passed : Passed s c
@@ -61,13 +80,13 @@ module _ (s : State) (c : CommandArgs) (h : IsAccepted s c) where
   start : StartIs (s .regions) (s .count) (s .pools) (s .unit)
   start = start-out (s .regions) (s .count) (s .pools) (s .unit) (good .rules)
 
-  call-is : {d : Decoded} → decode (c .packet) ≡ d → commandCall s c ≡ carryOut s c d
-  call-is e = accepted-call s c h ∙ ap (carryOut s c) e
+  pub call-is : {d : Decoded} → decode (c .packet) ≡ d → commandCall s c ≡ carryOut s c (taskOf (c .symbols) (nameIn (c .packet)) d)
+  call-is e = accepted-call s c h ∙ ap (λ (d : Decoded). carryOut s c (taskOf (c .symbols) (nameIn (c .packet)) d)) e
 
-  dump-done : DumpAllowed s (c .packet) → DumpDone s c (carryOut s c (Known (Dump (requestOf (c .packet)))))
+  dump-done : (r : Range) → PlaceFree s → DumpDone s c r (carryOut s c (DumpRange r))
   unfolding firstIdle
-  dump-done a =
-      let f = first-found (idleAt s) 4 (any-of (idleAt s) 4 (a .place .1) (ap isIdle (a .place .2))) in
+  dump-done r p =
+      let f = first-found (idleAt s) 4 (any-of (idleAt s) 4 (p .1) (ap isIdle (p .2))) in
       let four = good .places .four in
       record {
         i = firstIdle (s .places);
@@ -80,7 +99,7 @@ module _ (s : State) (c : CommandArgs) (h : IsAccepted s c) where
         reply = (refl, refl);
       }
 
-  cancel-done : CancelAllowed s (c .packet) → CancelDone s c (carryOut s c (Known Cancel))
+  cancel-done : CancelAllowed s (c .packet) → CancelDone s c (carryOut s c CancelDump)
   unfolding firstWith
   cancel-done a =
       let f = first-found (numberAt s c) 4 (any-of (numberAt s c) 4 (a .busy .1) (a .busy .2)) in
@@ -95,7 +114,7 @@ module _ (s : State) (c : CommandArgs) (h : IsAccepted s c) where
         reply = (refl, refl);
       }
 
-  load-done : LoadAllowed s (c .packet) → LoadDone s c (carryOut s c (Known (Load (requestOf (c .packet)))))
+  load-done : LoadAllowed s (c .packet) → LoadDone s c (carryOut s c (LoadRange (rangeOf (c .packet))))
   load-done a =
       let p = c .packet in
       let r = rangeOf p in
@@ -159,14 +178,44 @@ module _ (s : State) (c : CommandArgs) (h : IsAccepted s c) where
         image = refl;
       }
 
-  pool-done : PoolAllowed s c → PoolDone s c (carryOut s c (Known (PoolStatistics (poolOf (c .packet)))))
+  pool-done : PoolAllowed s c → PoolDone s c (carryOut s c (CountPool (poolOf (c .packet))))
   pool-done a = rw (tiles-blocks (a .blocks .1)) (pool-replied a)
+
+  value-done : (v : ℕ) → SymbolNamed c 60 v → v < 4294967296 → ValueDone s c (carryOut s c (TellValue v))
+  value-done v x low =
+      let t = commandTransaction (c .packet) in
+      let b = valueBytes (s .values) (s .unit) t v in
+      let e : length b ≡ 12 = value-length (s .values) (s .unit) t v in
+      let head = value-head (s .values) (s .unit) t v (good .values) (start .low) (omega arith) in
+      record {
+        v = v;
+        symbol = x;
+        value = value-word (s .values) (s .unit) t v (c .reply) low;
+        reported = refl;
+        header = rw (← e, splice-front (c .reply) b) head;
+        rest = rw e at (splice-rest (c .reply) b);
+        state = refl;
+        image = refl;
+      }
+
+  by-name-done : (a : ByNameAllowed s c) → ByNameDone s c (carryOut s c (DumpRange (rangeFrom (c .packet) (a .a))))
+  by-name-done a =
+      record { v = a .v; symbol = a .symbol; a = a .a; reached = a .reached; dump = dump-done (rangeFrom (c .packet) (a .a)) (a .place) }
 
   pub effects : Effects s c
   effects =
       record {
-        dump = λ e. let d = decode-dump (c .packet) e in rw (call-is d) (dump-done (dump-out s c (tests-of s c _ d h)));
+        dump = λ e. let d = decode-dump (c .packet) e in rw (call-is d) (dump-done (rangeOf (c .packet)) (dump-out s c (tests-of s c _ d h) .place));
         cancel = λ e. let d = decode-cancel (c .packet) e in rw (call-is d) (cancel-done (cancel-out s c (tests-of s c _ d h)));
         load = λ e. let d = decode-load (c .packet) e in rw (call-is d) (load-done (load-out s c (tests-of s c _ d h)));
         pool = λ e. let d = decode-pool (c .packet) e in rw (call-is d) (pool-done (pool-out s c (tests-of s c _ d h)));
+        value = λ e b.
+            let d = decode-value (c .packet) e in
+            let a = value-out s c (tests-of s c _ d h) in
+            let v = value-named s c (a .1) in
+            rw (call-is d, v) (value-done (a .0) (a .1) (rw v at (value-fits (c .symbols) (nameIn (c .packet)) b)));
+        by-name = λ e b.
+            let d = decode-by-name (c .packet) e in
+            let a = by-name-out s c b (tests-of s c _ d h) in
+            rw (call-is d, range-named s c (a .symbol) (a .reached)) (by-name-done a);
       }

@@ -1,6 +1,7 @@
 -- Demand 2, from its parts.
 -- Assumes nothing.
 use Rattle.rules.specs.Demand2.{Demand2}
+use Rattle.symbols.proofs.Logic.{table-when, resolves-when}
 use Rattle.rules.proofs.Pools.{figures-are, block-bits}
 use Rattle.rules.proofs.GoodWhen.{region-when, start-when, good-when}
 use Rattle.rules.proofs.AcceptedWhen.{accepted-when}
@@ -19,6 +20,8 @@ demand-2 =
       region-when = region-when;
       start-when = start-when;
       good-when = good-when;
+      table-when = table-when;
+      resolves-when = resolves-when;
       command-good = command-good;
       slot-good = slot-good;
       start-good = start-good;

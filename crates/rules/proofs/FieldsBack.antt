@@ -10,7 +10,7 @@ use Rattle.rules.specs.Packets.{primaryHeader, versionOf, typeOf, second
 
 module _ (p : List ℕ) (bytes : AreBytes p) where
   -- a number that two bytes hold
-  pair-back : (x at : ℕ) → x ≡ beAt 2 p at → be 2 x ≡ cells 2 p at
+  pub pair-back : (x at : ℕ) → x ≡ beAt 2 p at → be 2 x ≡ cells 2 p at
   pair-back x at e = ap (be 2) e ∙ be-of 2 p at bytes
 
   pub primary-back : (type second apid n : ℕ) → versionOf p ≡ 0 → typeOf p ≡ type → secondHeaderOf p ≡ second → apidOf p ≡ apid

@@ -11,12 +11,12 @@ use Rattle.lists.proofs.Splice.{splice-length}
 use Rattle.wire.proofs.Lengths.{word-bytes-length}
 use Rattle.rules.specs.Regions.{anyRight, inOneRegion, imageLength, imageIndex}
 use Rattle.rules.specs.States.{pieceWords}
-use Rattle.rules.specs.Packets.{dataWords, requested, packetLength, usedWords, bodyBytes, sealed, commandBytes}
+use Rattle.rules.specs.Packets.{dataWords, requested, packetLength, usedWords, nameBytes, bodyBytes, sealed, commandBytes}
 use Rattle.rules.specs.Pools.{Block, replyLength, replyBytes}
 use Rattle.rules.specs.Slots.{longestPacket, packetHeader, nextWords, packetBytes}
 use Rattle.rules.specs.declared.ActiveDump.{ActiveDump}
 use Rattle.rules.specs.declared.Command.{Command}
-use Rattle.rules.specs.declared.Command.the-variants.{Dump, Cancel, Load, PoolStatistics}
+use Rattle.rules.specs.declared.Command.the-variants.{Dump, Cancel, Load, PoolStatistics, SymbolValue, DumpSymbol}
 use Rattle.rules.specs.declared.Header.{Header}
 use Rattle.rules.specs.declared.Region.{Region}
 use Rattle.rules.specs.declared.Request.{Request}
@@ -67,11 +67,17 @@ packet-keeps-length s tick d image buffer l =
 pub used-length : (size : ℕ) (ws : List ℕ) → length (usedWords size ws) ≡ 11
 used-length size ws = simp (length-take, length-append, length-replicate) (omega arith)
 
+-- and a name 48 bytes
+pub name-length : (n : ℕ) (ws : List ℕ) → length (nameBytes n ws) ≡ 48
+name-length n ws = simp (length-take, length-append, length-replicate) (omega arith)
+
 pub body-length : (k : Command) (ws : List ℕ) → 10 + length (bodyBytes k ws) ≡ packetLength k
 body-length (Dump q) ws = refl
 body-length Cancel ws = refl
 body-length (Load q) ws = let b = word-bytes-length (usedWords (q .size) ws) in let u = used-length (q .size) ws in omega arith
 body-length (PoolStatistics i) ws = refl
+body-length (SymbolValue n) ws = let u = name-length n ws in omega arith
+body-length (DumpSymbol q) ws = let u = name-length (q .name) ws in simp (length-append) (omega arith)
 
 pub command-length : (h : Header) (k : Command) (ws : List ℕ) → length (commandBytes h k ws) ≡ packetLength k
 unfolding commandBytes sealed

@@ -175,6 +175,7 @@ pub record GoodIs (s : State) : Type 0 where
   pub rules : startRules (s .regions) (s .count) (s .pools) (s .unit) ≡ true
   pub last : s .last ≤ 3
   pub replies : s .replies ≤ 16383
+  pub values : s .values ≤ 16383
   pub packets : s .packets ≤ 16383
   pub accepted : s .accepted ≤ 65535
   pub refused : s .refused ≤ 65535
@@ -186,24 +187,27 @@ module _ (s : State) where
   good-out h =
       let l = leb (s .last) 3 in
       let p = leb (s .replies) 16383 in
+      let v = leb (s .values) 16383 in
       let d = leb (s .packets) 16383 in
       let a = leb (s .accepted) 65535 in
       let r = leb (s .refused) 65535 in
       let b = startRules (s .regions) (s .count) (s .pools) (s .unit) in
       let c = placesRules (s .regions) (s .count) (s .places) in
-      let h1 = and-left (b && (l && p && d && a && r)) c h in
-      let h2 = and-right b (l && p && d && a && r) h1 in
-      let h3 = and-left (l && p && d && a) r h2 in
-      let h4 = and-left (l && p && d) a h3 in
-      let h5 = and-left (l && p) d h4 in
+      let h1 = and-left (b && (l && p && v && d && a && r)) c h in
+      let h2 = and-right b (l && p && v && d && a && r) h1 in
+      let h3 = and-left (l && p && v && d && a) r h2 in
+      let h4 = and-left (l && p && v && d) a h3 in
+      let h5 = and-left (l && p && v) d h4 in
+      let h6 = and-left (l && p) v h5 in
       record {
-        rules = and-left b (l && p && d && a && r) h1;
-        last = leb-true _ _ (and-left l p h5);
-        replies = leb-true _ _ (and-right l p h5);
-        packets = leb-true _ _ (and-right (l && p) d h4);
-        accepted = leb-true _ _ (and-right (l && p && d) a h3);
-        refused = leb-true _ _ (and-right (l && p && d && a) r h2);
-        places = places-out (s .regions) (s .count) (s .places) (and-right (b && (l && p && d && a && r)) c h);
+        rules = and-left b (l && p && v && d && a && r) h1;
+        last = leb-true _ _ (and-left l p h6);
+        replies = leb-true _ _ (and-right l p h6);
+        values = leb-true _ _ (and-right (l && p) v h5);
+        packets = leb-true _ _ (and-right (l && p && v) d h4);
+        accepted = leb-true _ _ (and-right (l && p && v && d) a h3);
+        refused = leb-true _ _ (and-right (l && p && v && d && a) r h2);
+        places = places-out (s .regions) (s .count) (s .places) (and-right (b && (l && p && v && d && a && r)) c h);
       }
 
   pub good-in : GoodIs s → goodState s ≡ true
@@ -213,6 +217,7 @@ module _ (s : State) where
         g .rules,
         le-leb (s .last) 3 (g .last),
         le-leb (s .replies) 16383 (g .replies),
+        le-leb (s .values) 16383 (g .values),
         le-leb (s .packets) 16383 (g .packets),
         le-leb (s .accepted) 65535 (g .accepted),
         le-leb (s .refused) 65535 (g .refused),

@@ -10,7 +10,7 @@ use lib.ListN.{length}
 use borrow.Author.Tests.{ltb-false, le-ltb, leb-true, le-leb, eqb-true, eq-eqb, not-false}
 use Rattle.lists.proofs.Tests.{and-left, and-right, and-both}
 use Rattle.rules.specs.States.{freshState}
-use Rattle.rules.specs.Packets.{headerAt, commandUnit, decode, packetLength, fieldRules}
+use Rattle.rules.specs.Packets.{headerAt, commandUnit, decode, packetLength, fieldRules, zeroRules}
 use Rattle.rules.specs.Results.{answerNumber, lowest}
 use Rattle.rules.specs.Demand2.{ForThisBox}
 use Rattle.rules.specs.Ground.{headerRules, writerRows, concludeWrite, writeCommand, readerRows, fieldsRead, concludeRead, readCommand}
@@ -85,16 +85,19 @@ pub record Readable (p : List ℕ) (k : Command) : Type 0 where
   pub known : decode p ≡ Known k
   pub bytes : length p ≡ packetLength k
   pub fields : fieldRules k ≡ true
+  pub zeros : zeroRules p k ≡ true
 
 module _ (p : List ℕ) where
   rows-readable : (k : Command) → decode p ≡ Known k → NoneApplies (readerRows p) → Readable p k
   unfolding readerRows
   rows-readable k e (shape, (apid, (known, (bytes, (fields, end))))) =
+      let f = not-false _ (rw e at fields) in
       record {
         box = box-out (boxOf p) p (not-false _ shape) (eqb-true _ _ (not-false _ apid)) refl;
         known = e;
         bytes = eqb-true _ _ (not-false _ (rw e at bytes));
-        fields = not-false _ (rw e at fields);
+        fields = and-left (fieldRules k) (zeroRules p k) f;
+        zeros = and-right (fieldRules k) (zeroRules p k) f;
       }
 
   readable-rows : (k : Command) → Readable p k → NoneApplies (readerRows p)
@@ -102,7 +105,7 @@ module _ (p : List ℕ) where
   readable-rows k r =
       rw (r .known) (
         ap not (box-in (boxOf p) p (r .box)),
-        (ap not (eq-eqb _ _ (r .box .apid)), (refl, (ap not (eq-eqb _ _ (r .bytes)), (ap not (r .fields), tt)))),
+        (ap not (eq-eqb _ _ (r .box .apid)), (refl, (ap not (eq-eqb _ _ (r .bytes)), (ap not (and-both (r .fields) (r .zeros)), tt)))),
       )
 
   pub readable-in : (k : Command) → Readable p k → readCommand p ≡ fieldsRead p (Known k)

@@ -1,4 +1,4 @@
--- Every call of a good state is lawful and leaves a good state, by demand 2.
+-- Every call of a good state is lawful and leaves a good state, by demand 2; the value of a symbol by what its call leaves.
 -- Assumes nothing.
 use mathlib.Core.Path.{_≡_, _∙_, refl, ap, ap₂, sym}
 use mathlib.Core.Logic.{_≢_}
@@ -14,13 +14,13 @@ use Rattle.lists.proofs.Tests.{either, contra, and-left, and-right, and-both, b
 use Rattle.wire.specs.Bytes.{AreBytes}
 use Rattle.rules.specs.Regions.{imageLength}
 use Rattle.rules.specs.States.{contextAt, busyWith, goodState}
-use Rattle.rules.specs.Packets.{functionCodeOf, decode, requestOf, commandTransaction, transactionAt}
+use Rattle.rules.specs.Packets.{functionCodeOf, decode, requestOf, nameSizeOf, symbolRequestOf, commandTransaction, transactionAt}
 use Rattle.rules.specs.Pools.{Walk, damaged, whole, blocksOf}
 use Rattle.rules.specs.Results.{counted, answerNumber, lowest, lentRows}
-use Rattle.rules.specs.Commands.{CommandArgs, commandRows, changed, refusedMore, refusedCommand, newDump, poolWords, replied, carryOut, conclude, commandCall}
+use Rattle.rules.specs.Commands.{CommandArgs, Outcome, task, commandRows, changed, refusedMore, refusedCommand, newDump, poolWords, replied, carryOut, conclude, commandCall}
 use Rattle.rules.specs.Slots.{SlotArgs, longestPacket, slotRows, nextPlace, serve, concludeSlot, slotCall}
-use Rattle.rules.specs.Demand2.{Demand2, IsAccepted, OnePlace, afterCommand, DumpAllowed, DumpDone, CancelDone, LoadDone, PoolDone, SlotDone}
-use Rattle.rules.specs.Cases.{rangeOf, poolOf}
+use Rattle.rules.specs.Demand2.{Demand2, IsAccepted, AcceptedWhen, OnePlace, afterCommand, DumpDone, CancelDone, SlotDone}
+use Rattle.rules.specs.Cases.{rangeOf, rangeFrom, poolOf, NumberFree}
 use Rattle.rules.specs.Demand3.{Call, command, slot, LendsBytes, step, Event, events, Asked, nothing, dump, cancel, asked, isDump, isCancel, accepts, cancels, writes, counts}
 use Rattle.rules.specs.declared.ActiveDump.{ActiveDump}
 use Rattle.rules.specs.declared.Place.{Place}
@@ -28,15 +28,19 @@ use Rattle.rules.specs.declared.Range.{Range}
 use Rattle.rules.specs.declared.Context.{Context}
 use Rattle.rules.specs.declared.Context.the-variants.{Idle, Busy}
 use Rattle.rules.specs.declared.State.{State}
-use Rattle.rules.specs.declared.Command.the-variants.{Dump, Cancel, Load, PoolStatistics}
-use Rattle.rules.specs.declared.Decoded.{Decoded}
-use Rattle.rules.specs.declared.Decoded.the-variants.{Unknown, Known}
+use Rattle.rules.specs.declared.Command.the-variants.{Dump, Cancel, Load, PoolStatistics, SymbolValue, DumpSymbol}
+use Rattle.rules.specs.declared.Decoded.the-variants.{Known}
+use Rattle.rules.specs.declared.Task.{Task}
+use Rattle.rules.specs.declared.Task.the-variants.{Nothing, DumpRange, CancelDump, LoadRange, CountPool, TellValue}
 use Rattle.rules.specs.declared.Refusal.{Refusal}
 use Rattle.rules.specs.declared.Refusal.the-variants.{UnknownCode, PoolDamaged}
 use Rattle.rules.specs.declared.Verdict.{Verdict}
 use Rattle.rules.specs.declared.Verdict.the-variants.{Accepted, Rejected}
 use Rattle.rules.proofs.Good.{GoodIs, good-out, busy-dump, context-past}
-use Rattle.rules.proofs.Passed.{Passed, passed-out}
+use Rattle.rules.proofs.Passed.{passed-out}
+use Rattle.rules.proofs.Asks.{asks}
+use Rattle.rules.proofs.Allowed.{range-named}
+use Rattle.rules.proofs.Effects.{call-is}
 use Rattle.rules.proofs.Watch.{head-eq, tail-eq, nothing-in}
 use Rattle.rules.proofs.Laws.{Puts, Seen, never, its, Law, kept, accepted, cancelled, served, Chain, done, next}
 use Rattle.rules.proofs.Shown.{served-number, served-shows}
@@ -80,10 +84,13 @@ by-code : {C : Type 0} (p : List ℕ)
     → (functionCodeOf p ≡ 1 → decode p ≡ Known Cancel → C)
     → (functionCodeOf p ≡ 4 → decode p ≡ Known (Load (requestOf p)) → C)
     → (functionCodeOf p ≡ 7 → decode p ≡ Known (PoolStatistics (poolOf p)) → C)
-    → (functionCodeOf p ≢ 0 → functionCodeOf p ≢ 1 → functionCodeOf p ≢ 4 → functionCodeOf p ≢ 7 → C)
+    → (decode p ≡ Known (SymbolValue (nameSizeOf p)) → C)
+    → (functionCodeOf p ≡ 9 → decode p ≡ Known (DumpSymbol (symbolRequestOf p)) → C)
+    → (functionCodeOf p ≢ 0 → functionCodeOf p ≢ 1 → functionCodeOf p ≢ 4 → functionCodeOf p ≢ 7
+    → functionCodeOf p ≢ 8 → functionCodeOf p ≢ 9 → C)
     → C
 unfolding decode
-by-code p dumps cancels loads pools others =
+by-code p dumps cancels loads pools values by-names others =
     let k = functionCodeOf p in
     elim (ℕ-discrete k 0) [
       | yes e ↦ dumps e (rw e)
@@ -93,7 +100,13 @@ by-code p dumps cancels loads pools others =
           | yes e ↦ loads e (rw e)
           | no n4 ↦ elim (ℕ-discrete k 7) [
             | yes e ↦ pools e (rw e)
-            | no n7 ↦ others n0 n1 n4 n7
+            | no n7 ↦ elim (ℕ-discrete k 8) [
+              | yes e ↦ values (rw e)
+              | no n8 ↦ elim (ℕ-discrete k 9) [
+                | yes e ↦ by-names e (rw e)
+                | no n9 ↦ others n0 n1 n4 n7 n8 n9
+              ]
+            ]
           ]
         ]
       ]
@@ -106,7 +119,7 @@ record Stays (s s′ : State) : Type 0 where
   count : s′ .count ≡ s .count
 
 -- under an accepted one
-after-stays : (s : State) {s′ : State} {ps : List Place} {replies : ℕ} → s′ ≡ afterCommand s ps replies → Stays s s′
+after-stays : (s : State) {s′ : State} {ps : List Place} {replies values : ℕ} → s′ ≡ afterCommand s ps replies values → Stays s s′
 after-stays s e =
     record {
       last = ap (λ (z : State). z .last) e;
@@ -118,8 +131,8 @@ after-stays s e =
 abbrev AllStays : State → State → Type 0
 AllStays s s′ = Stays s s′ × (s′ .places ≡ s .places)
 
-changed-stays : (s : State) (x y z : ℕ) → AllStays s (changed s (s .places) x y z)
-changed-stays s x y z = (record { last = refl; regions = refl; count = refl }, refl)
+changed-stays : (s : State) (w x y z : ℕ) → AllStays s (changed s (s .places) w x y z)
+changed-stays s w x y z = (record { last = refl; regions = refl; count = refl }, refl)
 
 refused-stays : (s : State) (c : CommandArgs) → answerNumber (commandCall s c .answer) ≢ 0 → AllStays s (commandCall s c .state)
 unfolding commandCall
@@ -128,23 +141,24 @@ refused-stays s c = concluded (lowest (commandRows s c))
     refusal : (r : Refusal) → AllStays s (refusedCommand s c r .state)
     refusal r =
         either (counted r)
-        (λ e. rw e (changed-stays s (s .replies) (s .accepted) (refusedMore s)))
-        (λ e. rw e (changed-stays s (s .replies) (s .accepted) (s .refused)))
+        (λ e. rw e (changed-stays s (s .replies) (s .values) (s .accepted) (refusedMore s)))
+        (λ e. rw e (changed-stays s (s .replies) (s .values) (s .accepted) (s .refused)))
 
     pool : (i : ℕ) (w : Walk) → answerNumber (replied s c i w .answer) ≢ 0 → AllStays s (replied s c i w .state)
     pool i damaged n = refusal PoolDamaged
     pool i (whole bs) n = absurd (n refl)
 
-    carried : (k : Decoded) → answerNumber (carryOut s c k .answer) ≢ 0 → AllStays s (carryOut s c k .state)
-    carried Unknown n = refusal UnknownCode
-    carried (Known (Dump q)) n = absurd (n refl)
-    carried (Known Cancel) n = absurd (n refl)
-    carried (Known (Load q)) n = absurd (n refl)
-    carried (Known (PoolStatistics i)) n = pool i (blocksOf (poolWords s i (c .image))) n
+    carried : (k : Task) → answerNumber (carryOut s c k .answer) ≢ 0 → AllStays s (carryOut s c k .state)
+    carried Nothing n = refusal UnknownCode
+    carried (DumpRange r) n = absurd (n refl)
+    carried CancelDump n = absurd (n refl)
+    carried (LoadRange r) n = absurd (n refl)
+    carried (CountPool i) n = pool i (blocksOf (poolWords s i (c .image))) n
+    carried (TellValue v) n = absurd (n refl)
 
     concluded : (v : Verdict) → answerNumber (conclude s c v .answer) ≢ 0 → AllStays s (conclude s c v .state)
     concluded (Rejected r) n = refusal r
-    concluded Accepted n = carried (decode (c .packet)) n
+    concluded Accepted n = carried (task c) n
 
 command-counts-none : (s : State) (c : CommandArgs) → counts (made s (command c)) ≡ false
 unfolding counts
@@ -229,50 +243,68 @@ module _ (D : Demand2) (s : State) (good : goodState s ≡ true) where
     lawful-kept x y se = lawful-by (kept x (y .last) se (λ h. absurd (contra h (command-counts-none s c)))) y
 
     module _ (h : IsAccepted s c) where
+      -- what allowed it
+      may : AcceptedWhen s c
+      may = let fit = passed-out s c h in D .accepted-when s c good (fit .image) (fit .reply)
+
+      -- a dump of the range r
+      lawful-range : (r : Range) → DumpDone s c r (commandCall s c) → NumberFree s (c .packet) → 1 ≤ r .words
+          → asked (command c) ≡ dump (commandTransaction (c .packet)) r → Lawful s (command c)
+      lawful-range r x free some a =
+          let g : GoodIs s = good-out s good in
+          let t = commandTransaction (c .packet) in
+          let y : Stays s (commandCall s c .state) = after-stays s (x .state) in
+          lawful-by
+          (accepted (x .i) (newDump t r) (x .rest .in-four) (omega arith) (x .idle)
+          (in-four (λ (b : Context). busyWith t b ≡ false) s good refl free)
+          (one-puts (x .now) (x .rest)) (y .last) some
+          (λ u q e. same-asked (sym a ∙ e .command)) (seen-command s c (dump t r) h a) (command-counts-none s c))
+          y
+
       lawful-dump : functionCodeOf (c .packet) ≡ 0 → decode (c .packet) ≡ Known (Dump (requestOf (c .packet))) → Lawful s (command c)
       lawful-dump k e =
-          let x : DumpDone s c (commandCall s c) = D .effects s c h .dump k in
-          let fit : Passed s c = passed-out s c h in
-          let may : DumpAllowed s (c .packet) = D .accepted-when s c good (fit .image) (fit .reply) .dump k .0 h .1 in
-          let g : GoodIs s = good-out s good in
-          let d : ActiveDump = newDump (commandTransaction (c .packet)) (rangeOf (c .packet)) in
-          let y : Stays s (commandCall s c .state) = after-stays s (x .state) in
-          let asks : asked (command c) ≡ dump (d .transaction) (d .range) = rw e in
-          lawful-by
-          (accepted (x .i) d (x .rest .in-four) (omega arith) (x .idle)
-          (in-four (λ (a : Context). busyWith (d .transaction) a ≡ false) s good refl (may .number))
-          (one-puts (x .now) (x .rest)) (y .last) (may .some)
-          (λ t r a. same-asked (sym asks ∙ a .command)) (seen-command s c (dump (d .transaction) (d .range)) h asks) (command-counts-none s c))
-          y
+          let a = may .dump k .0 h .1 in
+          lawful-range (rangeOf (c .packet)) (D .effects s c h .dump k) (a .number) (a .some) (asks c _ e)
+
+      lawful-by-name : functionCodeOf (c .packet) ≡ 9 → decode (c .packet) ≡ Known (DumpSymbol (symbolRequestOf (c .packet))) → Lawful s (command c)
+      lawful-by-name k e =
+          let a = may .by-name k bytes .0 h .1 in
+          let x = D .effects s c h .by-name k bytes in
+          lawful-range (rangeFrom (c .packet) (x .a)) (x .dump) (a .number) (a .some)
+          (asks c _ e ∙ ap (dump (commandTransaction (c .packet))) (range-named s c (x .symbol) (x .reached)))
 
       lawful-cancel : functionCodeOf (c .packet) ≡ 1 → decode (c .packet) ≡ Known Cancel → Lawful s (command c)
       lawful-cancel k e =
           let x : CancelDone s c (commandCall s c) = D .effects s c h .cancel k in
           let b = busy-dump (commandTransaction (c .packet)) (contextAt (s .places) (x .i)) (x .busy) in
           let y : Stays s (commandCall s c .state) = after-stays s (x .state) in
-          let asks : asked (command c) ≡ cancel (b .0 .transaction) = rw (b .2, e) in
+          let a : asked (command c) ≡ cancel (b .0 .transaction) = rw (b .2) (asks c _ e) in
           lawful-by
           (cancelled (x .i) (b .0) (b .1) (one-puts (x .now) (x .rest)) (y .last)
-          (seen-command s c (cancel (b .0 .transaction)) h asks) (command-counts-none s c))
+          (seen-command s c (cancel (b .0 .transaction)) h a) (command-counts-none s c))
           y
 
+      -- a command that asks nothing of the places and leaves them
+      lawful-still : {replies values : ℕ} → commandCall s c .state ≡ afterCommand s (s .places) replies values → asked (command c) ≡ nothing
+          → Lawful s (command c)
+      lawful-still x a = lawful-kept (ap (λ (z : State). z .places) x) (after-stays s x) (seen-command s c nothing h a)
+
       lawful-load : functionCodeOf (c .packet) ≡ 4 → decode (c .packet) ≡ Known (Load (requestOf (c .packet))) → Lawful s (command c)
-      lawful-load k e =
-          let x : LoadDone s c (commandCall s c) = D .effects s c h .load k in
-          lawful-kept (ap (λ (z : State). z .places) (x .state)) (after-stays s (x .state)) (seen-command s c nothing h (rw e))
+      lawful-load k e = lawful-still (D .effects s c h .load k .state) (asks c _ e)
 
       lawful-pool : functionCodeOf (c .packet) ≡ 7 → decode (c .packet) ≡ Known (PoolStatistics (poolOf (c .packet))) → Lawful s (command c)
-      lawful-pool k e =
-          let x : PoolDone s c (commandCall s c) = D .effects s c h .pool k in
-          lawful-kept (ap (λ (z : State). z .places) (x .state)) (after-stays s (x .state)) (seen-command s c nothing h (rw e))
+      lawful-pool k e = lawful-still (D .effects s c h .pool k .state) (asks c _ e)
+
+      -- the value of a symbol, whatever the table's bytes are
+      lawful-value : decode (c .packet) ≡ Known (SymbolValue (nameSizeOf (c .packet))) → Lawful s (command c)
+      lawful-value e = lawful-still (ap (λ (o : Outcome). o .state) (call-is s c h e)) (asks c _ e)
 
     lawful-command : Lawful s (command c)
     lawful-command =
         elim (ℕ-discrete (answerNumber (commandCall s c .answer)) 0) [
           | yes h ↦
-              let fit : Passed s c = passed-out s c h in
-              by-code (c .packet) (lawful-dump h) (lawful-cancel h) (lawful-load h) (lawful-pool h)
-              (λ n0 n1 n4 n7. absurd (D .accepted-when s c good (fit .image) (fit .reply) .other n0 n1 n4 n7 h))
+              by-code (c .packet) (lawful-dump h) (lawful-cancel h) (lawful-load h) (lawful-pool h) (lawful-value h) (lawful-by-name h)
+              (λ n0 n1 n4 n7 n8 n9. absurd (may h .other n0 n1 n4 n7 n8 n9 h))
           | no n ↦ let y = refused-stays s c n in lawful-kept (y .1) (y .0) (seen-refused (made s (command c)) n)
         ]
 

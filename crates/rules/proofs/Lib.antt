@@ -7,8 +7,10 @@ pub mod AfterPacket
 pub mod Round
 pub mod Fits
 pub mod Passed
+pub mod Offsets
 pub mod Allowed
 pub mod GoodWhen
+pub mod Asks
 pub mod Cases
 pub mod PacketTests
 pub mod GroundTests
@@ -41,3 +43,4 @@ pub mod ReadBack
 pub mod PlainBytes
 pub mod Examples
 pub mod FurtherExamples
+pub mod SymbolExamples

@@ -1,18 +1,19 @@
--- The result numbers: what each says of the state, and that the first row that applies has the lowest number that applies.
+-- The result numbers: what each says of the state, the first row that applies, and that where the rows ascend its number is the lowest that applies.
 -- Assumes nothing.
-use mathlib.Core.Path.{_≡_, refl, sym, subst⁻¹, _∙_}
-use mathlib.Core.Bool.{Bool, true, false, _&&_, cond}
+use mathlib.Core.Path.{_≡_, refl, sym, ap, subst⁻¹, _∙_}
+use mathlib.Core.Bool.{Bool, true, false, _&&_, _||_, cond}
 use mathlib.Core.List.{List, [], _∷_}
-use Prim.Native.Nat.{ℕ, _≤_, _<_}
+use Prim.Native.Nat.{ℕ, zero, suc, _≤_, _<_}
 use native.Mathlib.Omega.{arith}
 use lib.Dec.{ltb, eqb}
+use lib.ListN.{getD}
 use borrow.Author.Tests.{ltb-true, eq-eqb, ne-eqb}
 use Rattle.lists.proofs.Tests.{either, contra, and-left, and-right, by-order}
 use Rattle.rules.specs.Results.{number, counted, verdictNumber, Row, lowest}
-use Rattle.rules.specs.Demand1.{numbersOf, Lowest, keepsState, countsRefused}
-use Rattle.rules.specs.Cases.{applies}
+use Rattle.rules.specs.Demand1.{numbersOf, Lowest, FirstAt, First, keepsState, countsRefused}
+use Rattle.rules.specs.Cases.{applies, appliesAt}
 use Rattle.rules.specs.declared.Refusal.{Refusal}
-use Rattle.rules.specs.declared.Refusal.the-variants.{BadState, ImageLength, BufferLength, Malformed, OtherApid, UnknownCode, PacketLength, OtherUnit, BadField, OutsideRegions, NoRight, TransactionBusy, PlacesBusy, NotBusy, PoolDamaged, NothingToSend, BadTable}
+use Rattle.rules.specs.declared.Refusal.the-variants.{BadState, ImageLength, BufferLength, Malformed, OtherApid, UnknownCode, PacketLength, OtherUnit, BadField, OutsideRegions, NoRight, TransactionBusy, PlacesBusy, NotBusy, PoolDamaged, NothingToSend, BadTable, UnknownSymbol}
 use Rattle.rules.specs.declared.Verdict.{Verdict}
 use Rattle.rules.specs.declared.Verdict.the-variants.{Accepted, Rejected}
 
@@ -37,6 +38,7 @@ number-tests NotBusy = (refl, refl, refl)
 number-tests PoolDamaged = (refl, refl, refl)
 number-tests NothingToSend = (refl, refl, refl)
 number-tests BadTable = (refl, refl, refl)
+number-tests UnknownSymbol = (refl, refl, refl)
 
 pub number-some : (r : Refusal) → 0 < number r
 number-some r = ltb-true 0 (number r) (number-tests r .0)
@@ -118,6 +120,84 @@ lowest-of rows (Rejected r) f =
 -- the first row that applies gives the lowest number that does
 pub lowest-number : (rows : List Row) → ascends 0 (numbersOf rows) ≡ true → (v : Verdict) → lowest rows ≡ v → Lowest rows (verdictNumber v)
 lowest-number rows up v e = lowest-of rows v (rw e at (lowest-says 0 rows up))
+
+-- A ROW THAT DOES NOT APPLY can be left out
+
+-- the rows but the one at place n
+abbrev pub without : ℕ → List Row → List Row
+without n [] = []
+without zero (r ∷ rs) = rs
+without (suc n) (r ∷ rs) = r ∷ without n rs
+
+without-applies : (n : ℕ) (rows : List Row) → appliesAt n rows ≡ false → (i : ℕ) → applies i rows ≡ applies i (without n rows)
+without-applies n [] h i = refl
+without-applies zero (r ∷ rs) h i = applies-after r rs h i
+without-applies (suc n) (r ∷ rs) h i = ap (λ (b : Bool). (eqb (number (r .refusal)) i && r .applies) || b) (without-applies n rs h i)
+
+without-lowest : (n : ℕ) (rows : List Row) → appliesAt n rows ≡ false → lowest rows ≡ lowest (without n rows)
+unfolding lowest
+without-lowest n [] h = refl
+without-lowest zero (r ∷ rs) h = lowest-after r rs h
+without-lowest (suc n) (r ∷ rs) h = ap (cond (r .applies) (Rejected (r .refusal))) (without-lowest n rs h)
+
+-- the first row that applies has the lowest number if it has without that row
+pub lowest-without : (n : ℕ) (rows : List Row) → appliesAt n rows ≡ false
+    → Lowest (without n rows) (verdictNumber (lowest (without n rows))) → Lowest rows (verdictNumber (lowest rows))
+lowest-without n rows h l =
+    rw (without-lowest n rows h)
+    (record {
+      refused = λ j p. let w = l .refused j p in (
+        λ e. let x = w .0 e in (without-applies n rows h j ∙ x .0, λ i q. without-applies n rows h i ∙ x .1 i q),
+        λ x. w .1 (sym (without-applies n rows h j) ∙ x .0, λ i q. sym (without-applies n rows h i) ∙ x .1 i q),
+      );
+      done = (λ e i. without-applies n rows h i ∙ l .done .0 e i, λ f. l .done .1 (λ i. sym (without-applies n rows h i) ∙ f i));
+    })
+
+-- THE FIRST ROW, whatever the order of the numbers
+
+-- what a verdict says of the places of the rows
+abbrev SaysAt : List Row → Verdict → Type 0
+SaysAt rows Accepted = (i : ℕ) → appliesAt i rows ≡ false
+SaysAt rows (Rejected r) = (i : ℕ) × FirstAt rows i (number r)
+
+-- where neither a row nor the first i rows after it apply, none does up to there
+none-to : (r : Row) (rs : List Row) → r .applies ≡ false → (i : ℕ) → ((j : ℕ) → j < i → appliesAt j rs ≡ false)
+    → (j : ℕ) → j < suc i → appliesAt j (r ∷ rs) ≡ false
+none-to r rs a i f zero l = a
+none-to r rs a i f (suc j) l = f j (omega arith)
+
+says-at-after : (r : Row) (rs : List Row) → r .applies ≡ false → (v : Verdict) → SaysAt rs v → SaysAt (r ∷ rs) v
+says-at-after r rs a Accepted f = λ i. none-to r rs a i (λ j l. f j) i (omega arith)
+says-at-after r rs a (Rejected x) (i, f) =
+    (suc i, record { number = f .number; there = f .there; none-before = none-to r rs a i (f .none-before) })
+
+first-says : (rows : List Row) → SaysAt rows (lowest rows)
+unfolding lowest
+first-says [] = λ i. refl
+first-says (r ∷ rs) =
+    either (r .applies)
+    (λ a. subst⁻¹ (SaysAt (r ∷ rs)) (lowest-here r rs a) (0, record { number = refl; there = a; none-before = λ j l. absurd (omega arith) }))
+    (λ a. subst⁻¹ (SaysAt (r ∷ rs)) (lowest-after r rs a) (says-at-after r rs a (lowest rs) (first-says rs)))
+
+-- no two places are the first
+first-one : (rows : List Row) (i j m n : ℕ) → FirstAt rows i m → FirstAt rows j n → m ≡ n
+first-one rows i j m n f g =
+    by-order i j
+    (λ l. absurd (contra (f .there) (g .none-before i l)))
+    (λ l. absurd (contra (g .there) (f .none-before j l)))
+    (λ e. sym (f .number) ∙ ap (λ (k : ℕ). getD (numbersOf rows) k 0) e ∙ g .number)
+
+first-of : (rows : List Row) (v : Verdict) → SaysAt rows v → First rows (verdictNumber v)
+first-of rows Accepted f =
+    record { refused = λ j l. (λ e. absurd (omega arith), λ h. absurd (contra (h .1 .there) (f (h .0)))); done = (λ e. f, λ g. refl) }
+first-of rows (Rejected r) f =
+    record {
+      refused = λ j l. (λ e. rw e at f, λ h. first-one rows (f .0) (h .0) (number r) j (f .1) (h .1));
+      done = (λ e. let z : 0 < number r = number-some r in absurd (omega arith), λ g. absurd (contra (f .1 .there) (g (f .0))));
+    }
+
+pub first-number : (rows : List Row) (v : Verdict) → lowest rows ≡ v → First rows (verdictNumber v)
+first-number rows v e = first-of rows v (rw e at (first-says rows))
 
 -- ROWS OF WHICH NONE APPLIES
 

@@ -10,13 +10,13 @@ use borrow.Author.Tests.{ltb-false, le-ltb, eqb-true, eq-eqb, not-false}
 use Rattle.lists.proofs.Tests.{either, contra}
 use Rattle.rules.specs.Regions.{imageLength}
 use Rattle.rules.specs.States.{goodState}
-use Rattle.rules.specs.Packets.{wellFormed, decode, apidOf, commandUnit, commandTransaction}
+use Rattle.rules.specs.Packets.{wellFormed, decode, nameIn, apidOf, commandUnit, commandTransaction}
 use Rattle.rules.specs.Pools.{Block, Walk, damaged, whole, blocksOf, isDamaged}
 use Rattle.rules.specs.Results.{answerNumber, Row, lowest, lentRows}
-use Rattle.rules.specs.Commands.{CommandArgs, isUnknown, wrongLength, wrongField, outside, lacksRight, numberTaken, noPlace, noSuchDump, poolDamaged, poolWords, commandRows, carryOut, conclude, commandCall}
+use Rattle.rules.specs.Commands.{CommandArgs, taskOf, task, isUnknown, wrongLength, noTable, wrongField, unknownName, wrongRange, outside, lacksRight, numberTaken, noPlace, noSuchDump, poolDamaged, poolWords, commandRows, carryOut, conclude, commandCall}
 use Rattle.rules.specs.Demand2.{IsAccepted}
 use Rattle.rules.specs.declared.State.{State}
-use Rattle.rules.specs.declared.Command.the-variants.{Dump, Cancel, Load, PoolStatistics}
+use Rattle.rules.specs.declared.Command.the-variants.{Dump, Cancel, Load, PoolStatistics, SymbolValue, DumpSymbol}
 use Rattle.rules.specs.declared.Decoded.{Decoded}
 use Rattle.rules.specs.declared.Decoded.the-variants.{Unknown, Known}
 use Rattle.rules.specs.declared.Verdict.{Verdict}
@@ -54,13 +54,16 @@ none-lowest (r ∷ rs) h = rw (h .0) (none-lowest rs (h .1))
 pub record Tested (s : State) (c : CommandArgs) (d : Decoded) : Type 0 where
   pub known : isUnknown d ≡ false
   pub bytes : wrongLength (c .packet) d ≡ false
-  pub fields : wrongField d ≡ false
-  pub inside : outside s d ≡ false
-  pub right : lacksRight s d ≡ false
-  pub new : numberTaken s (commandTransaction (c .packet)) d ≡ false
-  pub place : noPlace s d ≡ false
-  pub busy : noSuchDump s (commandTransaction (c .packet)) d ≡ false
-  pub blocks : poolDamaged s (c .image) d ≡ false
+  pub table : noTable (c .symbols) d ≡ false
+  pub fields : wrongField (c .packet) d ≡ false
+  pub named : unknownName (c .symbols) (nameIn (c .packet)) d ≡ false
+  pub range : wrongRange (c .symbols) (nameIn (c .packet)) d ≡ false
+  pub inside : outside s (taskOf (c .symbols) (nameIn (c .packet)) d) ≡ false
+  pub right : lacksRight s (taskOf (c .symbols) (nameIn (c .packet)) d) ≡ false
+  pub new : numberTaken s (commandTransaction (c .packet)) (taskOf (c .symbols) (nameIn (c .packet)) d) ≡ false
+  pub place : noPlace s (taskOf (c .symbols) (nameIn (c .packet)) d) ≡ false
+  pub busy : noSuchDump s (commandTransaction (c .packet)) (taskOf (c .symbols) (nameIn (c .packet)) d) ≡ false
+  pub blocks : poolDamaged s (c .image) (taskOf (c .symbols) (nameIn (c .packet)) d) ≡ false
 
 pub record Passed (s : State) (c : CommandArgs) : Type 0 where
   pub good : goodState s ≡ true
@@ -73,8 +76,8 @@ pub record Passed (s : State) (c : CommandArgs) : Type 0 where
 
 module _ (s : State) (c : CommandArgs) where
   rows-out : NoneApplies (commandRows s c) → Passed s c
-  unfolding commandRows lentRows
-  rows-out (good, (image, (reply, (shape, (apid, (known, (bytes, (unit, (fields, (inside, (right, (new, (place, (busy, (blocks, end))))))))))))))) =
+  unfolding commandRows lentRows task
+  rows-out (good, (image, (reply, (shape, (apid, (known, (bytes, (unit, (table, (fields, (named, (range, (inside, (right, (new, (place, (busy, (blocks, end)))))))))))))))))) =
       record {
         good = not-false _ good;
         image = eqb-true _ _ (not-false _ image);
@@ -83,12 +86,24 @@ module _ (s : State) (c : CommandArgs) where
         apid = eqb-true _ _ (not-false _ apid);
         unit = eqb-true _ _ (not-false _ unit);
         tests =
-            record
-            { known = known; bytes = bytes; fields = fields; inside = inside; right = right; new = new; place = place; busy = busy; blocks = blocks };
+            record {
+              known = known;
+              bytes = bytes;
+              table = table;
+              fields = fields;
+              named = named;
+              range = range;
+              inside = inside;
+              right = right;
+              new = new;
+              place = place;
+              busy = busy;
+              blocks = blocks;
+            };
       }
 
   rows-in : Passed s c → NoneApplies (commandRows s c)
-  unfolding commandRows lentRows
+  unfolding commandRows lentRows task
   rows-in p =
       ap not (p .good)
       & ap not (eq-eqb _ _ (p .image))
@@ -98,7 +113,10 @@ module _ (s : State) (c : CommandArgs) where
       & p .tests .known
       & p .tests .bytes
       & ap not (eq-eqb _ _ (p .unit))
+      & p .tests .table
       & p .tests .fields
+      & p .tests .named
+      & p .tests .range
       & p .tests .inside
       & p .tests .right
       & p .tests .new
@@ -121,19 +139,22 @@ module _ (s : State) (c : CommandArgs) where
   concluded (Rejected r) h = let l = number-some r in absurd (omega arith)
 
   -- a command whose tests passed is answered 0 when it is carried out
-  carried-out : (d : Decoded) → Tested s c d → answerNumber (carryOut s c d .answer) ≡ 0
+  carried-out : (d : Decoded) → Tested s c d → answerNumber (carryOut s c (taskOf (c .symbols) (nameIn (c .packet)) d) .answer) ≡ 0
   carried-out Unknown t = absurd (contra refl (t .known))
   carried-out (Known (Dump q)) t = refl
   carried-out (Known Cancel) t = refl
   carried-out (Known (Load q)) t = refl
   carried-out (Known (PoolStatistics i)) t = let u = undamaged (blocksOf (poolWords s i (c .image))) (t .blocks) in rw (u .1)
+  carried-out (Known (SymbolValue n)) t = refl
+  carried-out (Known (DumpSymbol q)) t = refl
 
   accepted-lowest : IsAccepted s c → lowest (commandRows s c) ≡ Accepted
   unfolding commandCall
   accepted-lowest h = concluded (lowest (commandRows s c)) h
 
-  lowest-call : lowest (commandRows s c) ≡ Accepted → commandCall s c ≡ carryOut s c (decode (c .packet))
-  unfolding commandCall
+  lowest-call : lowest (commandRows s c) ≡ Accepted
+      → commandCall s c ≡ carryOut s c (taskOf (c .symbols) (nameIn (c .packet)) (decode (c .packet)))
+  unfolding commandCall task
   lowest-call h = ap (conclude s c) h
 
   -- a command of which no row applies passed its tests
@@ -147,7 +168,7 @@ module _ (s : State) (c : CommandArgs) where
   passed-in p = rw (lowest-call (none-lowest _ (rows-in s c p))) (carried-out (decode (c .packet)) (p .tests))
 
   -- an accepted command is carried out
-  pub accepted-call : IsAccepted s c → commandCall s c ≡ carryOut s c (decode (c .packet))
+  pub accepted-call : IsAccepted s c → commandCall s c ≡ carryOut s c (taskOf (c .symbols) (nameIn (c .packet)) (decode (c .packet)))
   accepted-call h = lowest-call (accepted-lowest h)
 
   -- the tests of an accepted command, where its command is known

@@ -1,16 +1,13 @@
 -- Packets in plain bytes.
 -- Assumes nothing.
-use mathlib.Core.Path.{_≡_, refl, sym, ap, subst, subst⁻¹, _∙_}
-use mathlib.Core.Logic.{_≢_}
-use mathlib.Core.List.{List, _++_}
-use Prim.Native.Nat.{ℕ, _+_, _*_, _-_, _/_, _%_, _≤_, _<_, min}
+use mathlib.Core.Path.{_≡_, refl, sym, ap, subst⁻¹, _∙_}
+use mathlib.Core.List.{List, [], _∷_, _++_}
+use Prim.Native.Nat.{ℕ, _+_, _*_, _-_, _/_, _%_, _<_, min}
 use native.Mathlib.Omega.{arith}
-use lib.Dec.{eqb}
-use lib.ListN.{length, getD, take, drop, length-take, List·getD-eq-default}
-use lib.Seq.{getD-take, getD-drop}
-use borrow.Author.Tests.{ne-eqb}
+use lib.ListN.{length, getD, take, drop, length-append, length-take, List·getD-append, List·getD-eq-default}
+use lib.Seq.{getD-append-add, getD-take, getD-drop}
 use Rattle.lists.proofs.Tests.{by-lt}
-use Rattle.wire.specs.Bytes.{AreBytes, beAt, wordBytes, wordsAt}
+use Rattle.wire.specs.Bytes.{AreBytes, wordBytes, wordsAt}
 use Rattle.wire.specs.ByByte.{byte, two, four}
 use Rattle.wire.proofs.ByByte.{at-two, at-four, in-four}
 use Rattle.wire.proofs.Numbers.{be-back}
@@ -18,37 +15,37 @@ use Rattle.wire.proofs.Undo.{words-back}
 use Rattle.wire.proofs.Words.{words-at-length, words-at-word}
 use Rattle.rules.specs.Regions.{startOf, dumpRight, imageIndex, wordsOf}
 use Rattle.rules.specs.States.{pieceWords}
-use Rattle.rules.specs.Packets.{headerAt, requestOf, decode, dataWords, packetLength, sealed, commandBytes}
+use Rattle.rules.specs.Packets.{headerAt, requestOf, symbolRequestOf, dataWords, nameIn, nameWords, packetLength, usedWords, nameBytes, sealed, commandBytes}
 use Rattle.rules.specs.Results.{answerNumber, answerLength}
-use Rattle.rules.specs.Slots.{SlotArgs, packetHeader, nextWords, packetBytes, slotCall}
-use Rattle.rules.specs.Ground.{writeCommand, readCommand, wordsBeside, packetFields, PacketRead, concludePacket, readPacket, packetNumber}
-use Rattle.rules.specs.Demand2.{TelemetryHeader, SlotDone}
+use Rattle.rules.specs.Slots.{SlotArgs, nextWords, packetBytes, slotCall}
+use Rattle.rules.specs.Ground.{writeCommand, readCommand, wordsBeside, packetFields, PacketRead, readPacket, packetNumber}
+use Rattle.rules.specs.Demand2.{SlotDone}
 use Rattle.rules.specs.ReadBack.{CommandFits, AreWords, SlotFits, packetOf}
 use Rattle.rules.specs.PlainWords.{ImageFits}
-use Rattle.rules.specs.PlainBytes.{HeaderFields, requestAt, CommandFields, codeIn, Body, CommandWritten, Beside, CommandGiven, PacketWritten, PacketGiven, PlainBytes}
+use Rattle.rules.specs.PlainBytes.{HeaderFields, requestAt, CommandFields, codeIn, NameWritten, Body, CommandWritten, NameBeside, Beside, CommandGiven, PacketWritten, PacketGiven, PlainBytes}
 use Rattle.rules.specs.declared.ActiveDump.{ActiveDump}
 use Rattle.rules.specs.declared.Command.{Command}
-use Rattle.rules.specs.declared.Command.the-variants.{Dump, Cancel, Load, PoolStatistics}
-use Rattle.rules.specs.declared.CommandRead.{CommandRead}
-use Rattle.rules.specs.declared.Decoded.the-variants.{Unknown, Known}
+use Rattle.rules.specs.declared.Command.the-variants.{Dump, Cancel, Load, PoolStatistics, SymbolValue, DumpSymbol}
+use Rattle.rules.specs.declared.Decoded.the-variants.{Known}
 use Rattle.rules.specs.declared.DumpPacket.{DumpPacket}
 use Rattle.rules.specs.declared.Header.{Header}
-use Rattle.rules.specs.declared.PacketReading.{PacketReading}
-use Rattle.rules.specs.declared.PacketReading.the-variants.{NoPacket, Packet}
+use Rattle.rules.specs.declared.PacketReading.the-variants.{Packet}
 use Rattle.rules.specs.declared.Reading.the-variants.{Read}
 use Rattle.rules.specs.declared.Request.{Request}
 use Rattle.rules.specs.declared.State.{State}
+use Rattle.rules.specs.declared.SymbolRequest.{SymbolRequest}
 use Rattle.rules.specs.declared.Telecommand.{Telecommand}
-use Rattle.rules.proofs.Allowed.{decode-dump, decode-cancel, decode-load, decode-pool}
-use Rattle.rules.proofs.Fits.{command-length, packet-length}
+use Rattle.rules.proofs.Asks.{asked-is}
+use Rattle.rules.proofs.Allowed.{decode-dump, decode-cancel, decode-load, decode-pool, decode-value, decode-by-name, decode-other}
+use Rattle.rules.proofs.Fits.{name-length, command-length, packet-length}
 use Rattle.rules.proofs.GroundCases.{length-of}
-use Rattle.rules.proofs.GroundTests.{Writable, writable-out, writable-in, Readable, readable-in, readable-out}
+use Rattle.rules.proofs.GroundTests.{Writable, writable-out, writable-in, readable-in, readable-out}
 use Rattle.rules.proofs.Located.{good-table, words-sum, lies-from}
 use Rattle.rules.proofs.PacketTests.{packet-out, packet-in}
 use Rattle.rules.proofs.PlainWords.{words-in-image}
 use Rattle.rules.proofs.SlotRead.{Bounds, bounds, packet-length-field}
 use Rattle.rules.proofs.Table.{one-out}
-use Rattle.rules.proofs.UsedWords.{used-word, unused-word, load-most, load-words}
+use Rattle.rules.proofs.UsedWords.{padded-at, filled-used, filled-rest, used-word, unused-word, load-most, load-words, nameTail, by-name-parts, by-name-tail}
 use Rattle.rules.proofs.WriteRead.{length-most, command-check, packet-written}
 
 -- THE FIELDS OF A PACKET
@@ -75,8 +72,11 @@ header-fields p b =
 request-at : (p : List ℕ) → requestOf p ≡ requestAt p
 request-at p = λ i. record { size = at-two p 10 i; address = record { 0 = at-four p 12 i } }
 
+symbol-request-at : (p : List ℕ) → symbolRequestOf p ≡ record { name = byte p 10; offset = four p 60; size = two p 64 }
+symbol-request-at p = λ i. record { name = byte p 10; offset = at-four p 60 i; size = at-two p 64 i }
+
 command-fields : (p : List ℕ) → AreBytes p → CommandFields p
-unfolding decode
+unfolding nameIn
 command-fields p b =
     let f = header-fields p b in
     record {
@@ -90,9 +90,12 @@ command-fields p b =
       cancel = λ e. decode-cancel p e;
       load = λ e. decode-load p e ∙ ap (λ (q : Request). Known (Load q)) (request-at p);
       statistics = λ e. decode-pool p e ∙ ap (λ (n : ℕ). Known (PoolStatistics n)) (at-two p 10);
-      other = λ w x y z. rw (ne-eqb (byte p 6 % 128) 0 w, ne-eqb (byte p 6 % 128) 1 x, ne-eqb (byte p 6 % 128) 4 y, ne-eqb (byte p 6 % 128) 7 z);
+      value = λ e. decode-value p e;
+      by-name = λ e. decode-by-name p e ∙ ap (λ (q : SymbolRequest). Known (DumpSymbol q)) (symbol-request-at p);
+      other = decode-other p;
       words = words-at-length 11 p 16;
       word = λ k l. words-at-word 11 p 16 k l ∙ at-four p (16 + 4 * k);
+      name = refl;
     }
 
 -- COMMANDS, WRITTEN
@@ -104,12 +107,23 @@ module _ (h : Header) (ws : List ℕ) where
   written-code Cancel = refl
   written-code (Load q) = refl
   written-code (PoolStatistics i) = refl
+  written-code (SymbolValue n) = refl
+  written-code (DumpSymbol q) = refl
 
-  load-word : (q : Request) → q .size ≤ 11 → AreWords ws → (k x : ℕ) → k < 11 → getD (dataWords (commandBytes h (Load q) ws)) k 0 ≡ x
-      → four (commandBytes h (Load q) ws) (16 + 4 * k) ≡ x
-  load-word q most words k x l e =
+  load-word : (q : Request) → AreWords ws → (k x : ℕ) → k < 11 → getD (usedWords (q .size) ws) k 0 ≡ x → four (commandBytes h (Load q) ws) (16 + 4 * k) ≡ x
+  load-word q words k x l e =
       let p = commandBytes h (Load q) ws in
-      in-four p (16 + 4 * k) x (sym (words-at-word 11 p 16 k l) ∙ e)
+      in-four p (16 + 4 * k) x (sym (words-at-word 11 p 16 k l) ∙ ap (λ (v : List ℕ). getD v k 0) (load-words h q ws words) ∙ e)
+
+  -- a packet with the 48 bytes of a name from byte 12 on
+  name-written : (n : ℕ) (p : List ℕ) → byte p 10 ≡ n → byte p 11 ≡ 0 → ((j : ℕ) → j < 48 → byte p (12 + j) ≡ getD (nameBytes n ws) j 0) → NameWritten n ws p
+  name-written n p size pad at =
+      record {
+        size = size;
+        pad = pad;
+        letters = λ j m l. at j l ∙ filled-used 48 n (wordBytes ws) j m l;
+        rest = λ j m l. at j l ∙ filled-rest 48 n (wordBytes ws) j m;
+      }
 
   written-body : (k : Command) → CommandFits k → AreWords ws → (room : List ℕ) → Writable h k room → Body k ws (commandBytes h k ws)
   unfolding commandBytes sealed
@@ -119,11 +133,25 @@ module _ (h : Header) (ws : List ℕ) where
       let most = load-most q (w .fields) in (
         omega arith,
         omega arith,
-        λ k l. load-word q most words k _ (omega arith)
-            (ap (λ (v : List ℕ). getD v k 0) (load-words h q ws most words) ∙ used-word (q .size) ws k l (omega arith)),
-        λ k m l. load-word q most words k _ l (ap (λ (v : List ℕ). getD v k 0) (load-words h q ws most words) ∙ unused-word (q .size) ws k m),
+        λ k l. load-word q words k _ (omega arith) (used-word (q .size) ws k l (omega arith)),
+        λ k m l. load-word q words k _ l (unused-word (q .size) ws k m),
       )
   written-body (PoolStatistics i) fit words room w = omega arith
+  written-body (SymbolValue n) fit words room w =
+      let p = commandBytes h (SymbolValue n) ws in
+      name-written n p refl refl (λ j l. getD-append-add (take 12 p) (nameBytes n ws) j 0)
+  written-body (DumpSymbol q) fit words room w =
+      let p = commandBytes h (DumpSymbol q) ws in
+      let name = nameBytes (q .name) ws in
+      let e = name-length (q .name) ws in
+      let at : (j : ℕ) → j < 48 → byte p (12 + j) ≡ getD name j 0 = λ j l.
+      (ap (λ (b : List ℕ). getD b (12 + j) 0) (by-name-parts h q ws)
+      ∙ getD-append-add (take 12 p) (name ++ nameTail q) j 0
+      ∙ List·getD-append name (nameTail q) 0 j (omega arith)) in
+      let offset = by-name-tail h q ws 4 0 in
+      let size = by-name-tail h q ws 2 4 in
+      let zeros = by-name-tail h q ws 2 6 in
+      (name-written (q .name) p refl refl at, in-four p 60 _ (omega arith), omega arith, omega arith)
 
 module _ (h : Header) (k : Command) (ws buffer : List ℕ) (fit : CommandFits k) (words : AreWords ws) where
   bytes-written : Writable h k buffer → CommandWritten h k ws (commandBytes h k ws)
@@ -151,11 +179,21 @@ module _ (h : Header) (k : Command) (ws buffer : List ℕ) (fit : CommandFits k)
 
 -- COMMANDS, READ
 
+name-beside : (p : List ℕ) → NameBeside p (nameWords p)
+name-beside p = (words-at-length 12 p 12, λ k l. words-at-word 12 p 12 k l ∙ at-four p (12 + 4 * k))
+
 beside : (p : List ℕ) (k : Command) → Beside k p (wordsBeside p k)
 beside p (Dump q) = refl
 beside p Cancel = refl
-beside p (Load q) = (words-at-length 11 p 16, λ k l. words-at-word 11 p 16 k l ∙ at-four p (16 + 4 * k))
+beside p (Load q) =
+    let n = words-at-length 11 p 16 in (
+      length-append (dataWords p) (0 ∷ []) ∙ ap (λ (m : ℕ). m + 1) n,
+      λ k l. padded-at 1 (dataWords p) k ∙ words-at-word 11 p 16 k l ∙ at-four p (16 + 4 * k),
+      padded-at 1 (dataWords p) 11 ∙ List·getD-eq-default (dataWords p) 0 (omega arith),
+    )
 beside p (PoolStatistics i) = refl
+beside p (SymbolValue n) = name-beside p
+beside p (DumpSymbol q) = name-beside p
 
 -- header fields of a packet, as its bytes have them
 header-at : (p : List ℕ) → AreBytes p → (at : ℕ)
@@ -280,6 +318,7 @@ module _ (s : State) (c : SlotArgs) (fits : SlotFits s c) (x : SlotDone s c (slo
 pub plain-bytes : PlainBytes
 plain-bytes =
     record {
+      asked-is = asked-is;
       header-fields = header-fields;
       command-fields = command-fields;
       command-written = λ h k ws buffer fit words e. command-written h k ws buffer fit words e;

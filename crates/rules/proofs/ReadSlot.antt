@@ -102,6 +102,7 @@ module _ (f : DumpPacket) (k : CutIs f) where
         rules = g .rules;
         last = g .last;
         replies = g .replies;
+        values = g .values;
         packets = n;
         accepted = g .accepted;
         refused = g .refused;

@@ -9,19 +9,21 @@ use native.Mathlib.Omega.{arith}
 use lib.ListN.{length, drop}
 use borrow.Author.Tests.{eqb-true, ltb-false, not-false}
 use Rattle.lists.proofs.Tests.{either, contra}
-use Rattle.lists.proofs.Splice.{splice-rest}
+use Rattle.lists.proofs.Splice.{splice-length, splice-rest}
+use Rattle.symbols.specs.Table.{valueOf}
 use Rattle.rules.specs.Regions.{imageLength, tableRules}
 use Rattle.rules.specs.States.{entriesUsed, startRules, startUp, noState, goodState, contextAt}
-use Rattle.rules.specs.Packets.{decode, commandBytes}
+use Rattle.rules.specs.Packets.{decode, nameIn, commandTransaction, commandBytes}
+use Rattle.rules.specs.Values.{valueLength, valueBytes}
 use Rattle.rules.specs.Cases.{bytesOf}
 use Rattle.rules.specs.Pools.{Walk, damaged, whole, blocksOf, isDamaged, replyLength}
-use Rattle.rules.specs.Results.{answerLength, verdictNumber, answerNumber, lowest, lentRows}
-use Rattle.rules.specs.Commands.{CommandArgs, Outcome, isUnknown, outside, poolWords, poolDamaged, commandRows, acceptedMore, refusedCommand, replied, carryOut, conclude, commandCall}
+use Rattle.rules.specs.Results.{answerLength, verdictNumber, answerNumber, Row, lowest, lentRows}
+use Rattle.rules.specs.Commands.{CommandArgs, Outcome, taskOf, task, isUnknown, namesSymbol, wrongRange, poolWords, commandRows, acceptedMore, refusedCommand, replied, told, carryOut, conclude, commandCall}
 use Rattle.rules.specs.Slots.{SlotArgs, isBusy, anyBusy, longestPacket, slotRows, nextPlace, refusedSlot, serve, concludeSlot, slotCall}
 use Rattle.rules.specs.Ground.{writerRows, concludeWrite, writeCommand, readerRows, readingNumber, noWords, fieldsRead, concludeRead, readCommand, packetRows, packetNumber, concludePacket, readPacket}
 use Rattle.rules.specs.Demand1.{Lowest, CommandRefusals, SlotRefusals, StartRefusals, GroundRefusals, Demand1}
 use Rattle.rules.specs.declared.Command.{Command}
-use Rattle.rules.specs.declared.Command.the-variants.{Dump, Cancel, Load, PoolStatistics}
+use Rattle.rules.specs.declared.Command.the-variants.{Dump, Cancel, Load, PoolStatistics, SymbolValue, DumpSymbol}
 use Rattle.rules.specs.declared.Context.{Context}
 use Rattle.rules.specs.declared.Context.the-variants.{Idle, Busy}
 use Rattle.rules.specs.declared.Decoded.{Decoded}
@@ -31,13 +33,16 @@ use Rattle.rules.specs.declared.Range.{Range}
 use Rattle.rules.specs.declared.Refusal.{Refusal}
 use Rattle.rules.specs.declared.Region.{Region}
 use Rattle.rules.specs.declared.State.{State}
+use Rattle.rules.specs.declared.Task.{Task}
+use Rattle.rules.specs.declared.Task.the-variants.{Nothing, DumpRange, CancelDump, LoadRange, CountPool, TellValue}
 use Rattle.rules.specs.declared.Verdict.{Verdict}
 use Rattle.rules.specs.declared.Verdict.the-variants.{Accepted, Rejected}
 use Rattle.rules.proofs.Good.{good-out}
-use Rattle.rules.proofs.LowestNumber.{number-some, number-counts, number-keeps, lowest-number, test-passed}
+use Rattle.rules.proofs.LowestNumber.{number-some, number-counts, number-keeps, lowest-number, without, lowest-without, first-number, test-passed}
 use Rattle.rules.proofs.Fits.{load-keeps-length, reply-keeps-length, packet-keeps-length, command-keeps-length, command-length}
 use Rattle.rules.proofs.Round.{next-busy}
-use Rattle.rules.proofs.Cases.{command-cases, slot-cases}
+use Rattle.rules.proofs.Passed.{Tested, tests-passed}
+use Rattle.rules.proofs.Cases.{names-none, command-cases, slot-cases}
 use Rattle.rules.proofs.AnswerNumbers.{answer-numbers}
 use Rattle.rules.proofs.GroundCases.{length-of, writer-cases, reader-cases, packet-cases}
 
@@ -52,18 +57,6 @@ record CarriedOut (s : State) (c : CommandArgs) (o : Outcome) : Type 0 where
   buffer : length (o .buffer) ≡ length (c .reply)
 
 module _ (s : State) (c : CommandArgs) (passed : lowest (commandRows s c) ≡ Accepted) where
-  known-code : isUnknown (decode (c .packet)) ≡ false
-  unfolding commandRows lentRows
-  known-code = test-passed (commandRows s c) passed 6
-
-  not-outside : outside s (decode (c .packet)) ≡ false
-  unfolding commandRows lentRows
-  not-outside = test-passed (commandRows s c) passed 10
-
-  not-damaged : poolDamaged s (c .image) (decode (c .packet)) ≡ false
-  unfolding commandRows lentRows
-  not-damaged = test-passed (commandRows s c) passed 15
-
   image-length : length (c .image) ≡ imageLength (s .regions) (s .count)
   unfolding commandRows lentRows
   image-length = eqb-true _ _ (not-false _ (test-passed (commandRows s c) passed 2))
@@ -77,61 +70,143 @@ module _ (s : State) (c : CommandArgs) (passed : lowest (commandRows s c) ≡ Ac
   replied-out i (whole bs) h =
       record { done = refl; accepted = refl; refused = refl; image = refl; buffer = reply-keeps-length _ _ _ _ _ (c .reply) reply-room }
 
-  carried-out : (k : Decoded) → decode (c .packet) ≡ k → CarriedOut s c (carryOut s c k)
-  carried-out Unknown e = absurd (contra refl (rw e at known-code))
-  carried-out (Known (Dump q)) e = record { done = refl; accepted = refl; refused = refl; image = refl; buffer = refl }
-  carried-out (Known Cancel) e = record { done = refl; accepted = refl; refused = refl; image = refl; buffer = refl }
-  carried-out (Known (Load q)) e =
+  -- the reply that tells a value is shorter than the room that every command must have
+  told-length : (v : ℕ) → length (told s c v .buffer) ≡ length (c .reply)
+  told-length v =
+      let e : length (valueBytes (s .values) (s .unit) (commandTransaction (c .packet)) v) ≡ valueLength = unfold valueBytes in refl in
+      let l = reply-room in
+      splice-length (c .reply) 0 (valueBytes (s .values) (s .unit) (commandTransaction (c .packet)) v) (omega arith)
+
+  carried-out : (d : Decoded) → Tested s c d → CarriedOut s c (carryOut s c (taskOf (c .symbols) (nameIn (c .packet)) d))
+  carried-out Unknown t = absurd (contra refl (t .known))
+  carried-out (Known (Dump q)) t = record { done = refl; accepted = refl; refused = refl; image = refl; buffer = refl }
+  carried-out (Known Cancel) t = record { done = refl; accepted = refl; refused = refl; image = refl; buffer = refl }
+  carried-out (Known (Load q)) t =
       record {
         done = refl;
         accepted = refl;
         refused = refl;
-        image =
-            load-keeps-length (s .regions) (s .count) q (c .packet) (c .image) (not-false _ (rw e at not-outside)) image-length;
+        image = load-keeps-length (s .regions) (s .count) q (c .packet) (c .image) (not-false _ (t .inside)) image-length;
         buffer = refl;
       }
-  carried-out (Known (PoolStatistics i)) e = replied-out i (blocksOf (poolWords s i (c .image))) (rw e at not-damaged)
+  carried-out (Known (PoolStatistics i)) t = replied-out i (blocksOf (poolWords s i (c .image))) (t .blocks)
+  carried-out (Known (SymbolValue n)) t =
+      record { done = refl; accepted = refl; refused = refl; image = refl; buffer = told-length (valueOf (c .symbols) (nameIn (c .packet))) }
+  carried-out (Known (DumpSymbol q)) t = record { done = refl; accepted = refl; refused = refl; image = refl; buffer = refl }
+
+-- A COMMAND THAT NAMES NO SYMBOL
+
+-- its second 9 never applies, and its task is the same whatever symbol table is lent
+module _ (symbols name : List ℕ) where
+  no-range : (d : Decoded) → namesSymbol d ≡ false → wrongRange symbols name d ≡ false
+  no-range Unknown n = refl
+  no-range (Known (Dump q)) n = refl
+  no-range (Known Cancel) n = refl
+  no-range (Known (Load q)) n = refl
+  no-range (Known (PoolStatistics i)) n = refl
+  no-range (Known (SymbolValue i)) n = refl
+  no-range (Known (DumpSymbol q)) n = absurd (contra refl n)
+
+  same-task : (others : List ℕ) (d : Decoded) → namesSymbol d ≡ false → taskOf others name d ≡ taskOf symbols name d
+  same-task others Unknown n = refl
+  same-task others (Known (Dump q)) n = refl
+  same-task others (Known Cancel) n = refl
+  same-task others (Known (Load q)) n = refl
+  same-task others (Known (PoolStatistics i)) n = refl
+  same-task others (Known (SymbolValue i)) n = absurd (contra refl n)
+  same-task others (Known (DumpSymbol q)) n = absurd (contra refl n)
+
+-- what a task does looks at no symbol table
+abbrev lentOther : CommandArgs → List ℕ → CommandArgs
+lentOther c others = record { packet = c .packet; symbols = others; image = c .image; reply = c .reply }
+
+module _ (s : State) (c : CommandArgs) (others : List ℕ) where
+  same-reply : (i : ℕ) (w : Walk) → replied s (lentOther c others) i w ≡ replied s c i w
+  same-reply i damaged = refl
+  same-reply i (whole bs) = refl
+
+  same-outcome : (t : Task) → carryOut s (lentOther c others) t ≡ carryOut s c t
+  same-outcome Nothing = refl
+  same-outcome (DumpRange r) = refl
+  same-outcome CancelDump = refl
+  same-outcome (LoadRange r) = refl
+  same-outcome (CountPool i) = same-reply i (blocksOf (poolWords s i (c .image)))
+  same-outcome (TellValue v) = refl
+
+module _ (s : State) (c : CommandArgs) (none : namesSymbol (decode (c .packet)) ≡ false) where
+  -- rows 17 and 18 and the second 9 do not apply, and the others ascend
+  command-lowest : Lowest (commandRows s c) (verdictNumber (lowest (commandRows s c)))
+  unfolding commandRows lentRows
+  command-lowest =
+      let rows : List Row = commandRows s c in
+      lowest-without 11 rows (no-range (c .symbols) (nameIn (c .packet)) (decode (c .packet)) none)
+      (lowest-without 10 (without 11 rows) (rw none)
+      (lowest-without 8 (without 10 (without 11 rows)) (rw none) (lowest-number (without 8 (without 10 (without 11 rows))) refl _ refl)))
+
+  other-task : (others : List ℕ) → task (lentOther c others) ≡ task c
+  unfolding task
+  other-task others = same-task (c .symbols) (nameIn (c .packet)) others (decode (c .packet)) none
+
+  other-rows : (others : List ℕ) → commandRows s (lentOther c others) ≡ commandRows s c
+  unfolding commandRows lentRows
+  other-rows others =
+      let r : (symbols : List ℕ) → wrongRange symbols (nameIn (c .packet)) (decode (c .packet)) ≡ false =
+      λ symbols. no-range symbols (nameIn (c .packet)) (decode (c .packet)) none in
+      rw (none, r (c .symbols), r others, other-task others)
+
+  other-outcome : (others : List ℕ) (v : Verdict) → conclude s (lentOther c others) v ≡ conclude s c v
+  other-outcome others Accepted = rw (other-task others) (same-outcome s c others (task c))
+  other-outcome others (Rejected r) = refl
+
+  other-call : (others : List ℕ) → commandCall s (lentOther c others) ≡ commandCall s c
+  unfolding commandCall
+  other-call others = rw (other-rows others) (other-outcome others (lowest (commandRows s c)))
+
+-- THE COMMAND CALL'S STATEMENT
 
 module _ (s : State) (c : CommandArgs) where
-  command-lowest : (v : Verdict) → lowest (commandRows s c) ≡ v → Lowest (commandRows s c) (verdictNumber v)
+  command-accepted : lowest (commandRows s c) ≡ Accepted → (o : Outcome) → commandCall s c ≡ o → CarriedOut s c o → CommandRefusals s c o
   unfolding commandRows lentRows
-  command-lowest = lowest-number (commandRows s c) refl
-
-  command-accepted : lowest (commandRows s c) ≡ Accepted → (o : Outcome) → CarriedOut s c o → CommandRefusals s c o
-  unfolding commandRows lentRows
-  command-accepted e o is =
+  command-accepted e o call is =
       record {
         numbers = refl;
         cases = command-cases s c;
-        lowest = rw (is .done) (command-lowest Accepted e);
+        first = rw (is .done) (first-number (commandRows s c) Accepted e);
+        lowest = λ v n. rw (is .done) (rw e at (command-lowest s c (names-none (c .packet) v n)));
         kept = λ n. absurd (n (is .done));
         same = λ k. absurd (contra (rw (is .done) at k) refl);
         one-more = λ k. absurd (contra (rw (is .done) at k) refl);
         accepted = λ z. (is .accepted, is .refused);
+        no-symbol = λ v n others. other-call s c (names-none (c .packet) v n) others ∙ call;
         lent = (is .image, is .buffer);
       }
 
-  command-refused : (r : Refusal) → lowest (commandRows s c) ≡ Rejected r → CommandRefusals s c (refusedCommand s c r)
+  command-refused : (r : Refusal) → lowest (commandRows s c) ≡ Rejected r → commandCall s c ≡ refusedCommand s c r
+      → CommandRefusals s c (refusedCommand s c r)
   unfolding commandRows lentRows
-  command-refused r e =
+  command-refused r e call =
       record {
         numbers = refl;
         cases = command-cases s c;
-        lowest = command-lowest (Rejected r) e;
+        first = first-number (commandRows s c) (Rejected r) e;
+        lowest = λ v n. rw e at (command-lowest s c (names-none (c .packet) v n));
         kept = λ n. (refl, refl, refl);
         same = λ k. rw (number-keeps r k);
         one-more = λ k. rw (number-counts r k);
         accepted = λ z. let n = number-some r in absurd (omega arith);
+        no-symbol = λ v n others. other-call s c (names-none (c .packet) v n) others ∙ call;
         lent = (refl, refl);
       }
 
-  command-concluded : (v : Verdict) → lowest (commandRows s c) ≡ v → CommandRefusals s c (conclude s c v)
-  command-concluded Accepted e = command-accepted e (carryOut s c (decode (c .packet))) (carried-out s c e (decode (c .packet)) refl)
-  command-concluded (Rejected r) e = command-refused r e
+  command-concluded : (v : Verdict) → lowest (commandRows s c) ≡ v → commandCall s c ≡ conclude s c v → CommandRefusals s c (conclude s c v)
+  unfolding task
+  command-concluded Accepted e call =
+      command-accepted e (carryOut s c (task c)) call (carried-out s c e (decode (c .packet)) (tests-passed s c e))
+  command-concluded (Rejected r) e call = command-refused r e call
 
   command-refusals : CommandRefusals s c (commandCall s c)
   unfolding commandCall
-  command-refusals = command-concluded (lowest (commandRows s c)) refl
+  command-refusals = command-concluded (lowest (commandRows s c)) refl refl
 
 -- THE SLOT CALL
 

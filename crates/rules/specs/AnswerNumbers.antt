@@ -10,7 +10,7 @@ use Rattle.rules.specs.declared.DumpPacket.{DumpPacket}
 use Rattle.rules.specs.declared.PacketReading.the-variants.{NoPacket, Packet}
 use Rattle.rules.specs.declared.Reading.the-variants.{Unread, Read}
 use Rattle.rules.specs.declared.Refusal.{Refusal}
-use Rattle.rules.specs.declared.Refusal.the-variants.{BadState, ImageLength, BufferLength, Malformed, OtherApid, UnknownCode, PacketLength, OtherUnit, BadField, OutsideRegions, NoRight, TransactionBusy, PlacesBusy, NotBusy, PoolDamaged, NothingToSend, BadTable}
+use Rattle.rules.specs.declared.Refusal.the-variants.{BadState, ImageLength, BufferLength, Malformed, OtherApid, UnknownCode, PacketLength, OtherUnit, BadField, OutsideRegions, NoRight, TransactionBusy, PlacesBusy, NotBusy, PoolDamaged, NothingToSend, BadTable, UnknownSymbol}
 use Rattle.rules.specs.declared.Telecommand.{Telecommand}
 use Rattle.rules.specs.declared.Verdict.the-variants.{Accepted, Rejected}
 use Rattle.rules.specs.declared.Written.{Written}
@@ -20,7 +20,7 @@ pub record AnswerNumbers : Type 0 where
   pub lent : (number BadState ≡ 1) × (number ImageLength ≡ 2) × (number BufferLength ≡ 3)
   pub packet : (number Malformed ≡ 4) × (number OtherApid ≡ 5) × (number UnknownCode ≡ 6) × (number PacketLength ≡ 7) × (number OtherUnit ≡ 8) × (number BadField ≡ 9)
   pub command : (number OutsideRegions ≡ 10) × (number NoRight ≡ 11) × (number TransactionBusy ≡ 12) × (number PlacesBusy ≡ 13) × (number NotBusy ≡ 14) × (number PoolDamaged ≡ 15)
-  pub others : (number NothingToSend ≡ 16) × (number BadTable ≡ 17)
+  pub others : (number NothingToSend ≡ 16) × (number BadTable ≡ 17) × (number UnknownSymbol ≡ 18)
   -- done is 0, with the length that was written; a refusal is its number, with length 0
   pub done : (w : Written) → (answerNumber (Done w) ≡ 0) × (answerLength (Done w) ≡ w .length)
   pub refused : (r : Refusal) → (answerNumber (Refused r) ≡ number r) × (answerLength (Refused r) ≡ 0)

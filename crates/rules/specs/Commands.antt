@@ -1,14 +1,16 @@
--- Paper 01, "Result numbers" and "What each command does": the command call, from all that is lent to all that is left.
-use mathlib.Core.Bool.{Bool, true, false, not, cond}
+-- Paper 01, "Result numbers" and "What each command does", and paper 02, A2: the command call, from all that is lent to all that is left.
+use mathlib.Core.Bool.{Bool, true, false, not, cond, _&&_}
 use mathlib.Core.List.{List, [], _∷_, _++_}
 use Prim.Native.Nat.{ℕ, _+_, _%_}
 use lib.Dec.{leb, eqb}
 use lib.ListN.{length, set, take}
 use Rattle.lists.specs.Below.{anyBelow, firstBelow}
 use Rattle.lists.specs.Splice.{splice}
-use Rattle.rules.specs.Regions.{inOneRegion, anyRight, loadRight, dumpRight, imageIndex, wordsOf}
+use Rattle.rules.specs.Regions.{aligned, inOneRegion, anyRight, loadRight, dumpRight, imageIndex, wordsOf}
 use Rattle.rules.specs.States.{poolAt, contextAt, busyWith}
-use Rattle.rules.specs.Packets.{wellFormed, apidOf, commandApid, decode, packetLength, fieldRules, requested, commandUnit, commandTransaction, dataWords}
+use Rattle.rules.specs.Packets.{wellFormed, apidOf, commandApid, decode, packetLength, nameFits, fieldRules, zeroRules, requested, commandUnit, commandTransaction, dataWords, nameIn}
+use Rattle.rules.specs.Values.{addressFits, addressOf, valueLength, valueBytes}
+use Rattle.symbols.specs.Table.{symbolTable, hasName, valueOf}
 use Rattle.rules.specs.Pools.{Block, Walk, damaged, whole, blocksOf, isDamaged, replyBytes, replyLength}
 use Rattle.rules.specs.Results.{counted, Row, row, lowest, lentRows}
 use Rattle.rules.specs.declared.ActiveDump.{ActiveDump}
@@ -19,11 +21,14 @@ use Rattle.rules.specs.declared.Context.the-variants.{Idle, Busy}
 use Rattle.rules.specs.declared.Returned.{Returned}
 use Rattle.rules.specs.declared.State.{State}
 use Rattle.rules.specs.declared.Command.{Command}
-use Rattle.rules.specs.declared.Command.the-variants.{Dump, Cancel, Load, PoolStatistics}
+use Rattle.rules.specs.declared.Command.the-variants.{Dump, Cancel, Load, PoolStatistics, SymbolValue, DumpSymbol}
+use Rattle.rules.specs.declared.SymbolRequest.{SymbolRequest}
+use Rattle.rules.specs.declared.Task.{Task}
+use Rattle.rules.specs.declared.Task.the-variants.{Nothing, DumpRange, CancelDump, LoadRange, CountPool, TellValue}
 use Rattle.rules.specs.declared.Decoded.{Decoded}
 use Rattle.rules.specs.declared.Decoded.the-variants.{Unknown, Known}
 use Rattle.rules.specs.declared.Refusal.{Refusal}
-use Rattle.rules.specs.declared.Refusal.the-variants.{Malformed, OtherApid, UnknownCode, PacketLength, OtherUnit, BadField, OutsideRegions, NoRight, TransactionBusy, PlacesBusy, NotBusy, PoolDamaged}
+use Rattle.rules.specs.declared.Refusal.the-variants.{Malformed, OtherApid, UnknownCode, PacketLength, OtherUnit, BadField, OutsideRegions, NoRight, TransactionBusy, PlacesBusy, NotBusy, PoolDamaged, BadTable, UnknownSymbol}
 use Rattle.rules.specs.declared.Verdict.{Verdict}
 use Rattle.rules.specs.declared.Verdict.the-variants.{Accepted, Rejected}
 use Rattle.rules.specs.declared.Answer.{Answer}
@@ -32,6 +37,7 @@ use Rattle.rules.specs.declared.Answer.the-variants.{Refused, Done}
 -- what a command call is lent beside the state
 pub record CommandArgs : Type 0 where
   pub packet : List ℕ
+  pub symbols : List ℕ
   pub image : List ℕ
   pub reply : List ℕ
 
@@ -46,6 +52,25 @@ pub record Outcome : Type 0 where
 abbrev pub returned : Outcome → Returned
 returned o = record { answer = o .answer; state = o .state }
 
+-- WHAT A COMMAND ASKS FOR
+
+-- the range of a dump by name: from the address that its symbol's value and its offset give
+abbrev pub rangeBy : List ℕ → List ℕ → SymbolRequest → Range
+rangeBy symbols name q = record { start = record { 0 = addressOf (valueOf symbols name) (q .offset) }; words = q .size }
+
+-- a command's task: a dump by name is the dump of the range that its name resolves to
+abbrev pub taskOf : List ℕ → List ℕ → Decoded → Task
+taskOf symbols name Unknown = Nothing
+taskOf symbols name (Known (Dump q)) = DumpRange (requested q)
+taskOf symbols name (Known Cancel) = CancelDump
+taskOf symbols name (Known (Load q)) = LoadRange (requested q)
+taskOf symbols name (Known (PoolStatistics i)) = CountPool i
+taskOf symbols name (Known (SymbolValue n)) = TellValue (valueOf symbols name)
+taskOf symbols name (Known (DumpSymbol q)) = DumpRange (rangeBy symbols name q)
+
+unfoldable pub task : CommandArgs → Task
+task c = taskOf (c .symbols) (nameIn (c .packet)) (decode (c .packet))
+
 -- THE TESTS, one for each number that only some commands can get
 
 -- 6: unknown function code
@@ -58,26 +83,65 @@ abbrev pub wrongLength : List ℕ → Decoded → Bool
 wrongLength p Unknown = false
 wrongLength p (Known k) = not (eqb (length p) (packetLength k))
 
--- 9
-abbrev pub wrongField : Decoded → Bool
-wrongField Unknown = false
-wrongField (Known k) = not (fieldRules k)
+-- a command that names a symbol
+abbrev pub namesSymbol : Decoded → Bool
+namesSymbol Unknown = false
+namesSymbol (Known (Dump q)) = false
+namesSymbol (Known Cancel) = false
+namesSymbol (Known (Load q)) = false
+namesSymbol (Known (PoolStatistics i)) = false
+namesSymbol (Known (SymbolValue n)) = true
+namesSymbol (Known (DumpSymbol q)) = true
+
+-- 17: a symbol is named, and the symbol table is none
+abbrev pub noTable : List ℕ → Decoded → Bool
+noTable symbols d = namesSymbol d && not (symbolTable symbols)
+
+-- the first 9. The size of a dump by name is not tested here, but with its address.
+abbrev pub layoutRules : List ℕ → Command → Bool
+layoutRules p (Dump q) = fieldRules (Dump q)
+layoutRules p Cancel = fieldRules Cancel
+layoutRules p (Load q) = fieldRules (Load q)
+layoutRules p (PoolStatistics i) = fieldRules (PoolStatistics i)
+layoutRules p (SymbolValue n) = nameFits n && zeroRules p (SymbolValue n)
+layoutRules p (DumpSymbol q) = nameFits (q .name) && zeroRules p (DumpSymbol q)
+
+abbrev pub wrongField : List ℕ → Decoded → Bool
+wrongField p Unknown = false
+wrongField p (Known k) = not (layoutRules p k)
+
+-- 18: the table has no such name
+abbrev pub unknownName : List ℕ → List ℕ → Decoded → Bool
+unknownName symbols name d = namesSymbol d && not (hasName symbols name)
+
+-- the second 9, of a dump by name: an address below 0 or at 2^32 and up, or not a multiple of 4; size 0
+abbrev pub wrongRange : List ℕ → List ℕ → Decoded → Bool
+wrongRange symbols name Unknown = false
+wrongRange symbols name (Known (Dump q)) = false
+wrongRange symbols name (Known Cancel) = false
+wrongRange symbols name (Known (Load q)) = false
+wrongRange symbols name (Known (PoolStatistics i)) = false
+wrongRange symbols name (Known (SymbolValue n)) = false
+wrongRange symbols name (Known (DumpSymbol q)) =
+    not (addressFits (valueOf symbols name) (q .offset) && aligned (rangeBy symbols name q) && leb 1 (q .size))
 
 -- 10: range not whole in one region, or no such pool
-abbrev pub outside : State → Decoded → Bool
-outside s Unknown = false
-outside s (Known (Dump q)) = not (inOneRegion anyRight (s .regions) (s .count) (requested q))
-outside s (Known Cancel) = false
-outside s (Known (Load q)) = not (inOneRegion anyRight (s .regions) (s .count) (requested q))
-outside s (Known (PoolStatistics i)) = eqb (poolAt (s .pools) i .words) 0
+abbrev pub outside : State → Task → Bool
+outside s Nothing = false
+outside s (DumpRange r) = not (inOneRegion anyRight (s .regions) (s .count) r)
+outside s CancelDump = false
+outside s (LoadRange r) = not (inOneRegion anyRight (s .regions) (s .count) r)
+outside s (CountPool i) = eqb (poolAt (s .pools) i .words) 0
+outside s (TellValue v) = false
 
 -- 11: region lacks the right
-abbrev pub lacksRight : State → Decoded → Bool
-lacksRight s Unknown = false
-lacksRight s (Known (Dump q)) = not (inOneRegion dumpRight (s .regions) (s .count) (requested q))
-lacksRight s (Known Cancel) = false
-lacksRight s (Known (Load q)) = not (inOneRegion loadRight (s .regions) (s .count) (requested q))
-lacksRight s (Known (PoolStatistics i)) = false
+abbrev pub lacksRight : State → Task → Bool
+lacksRight s Nothing = false
+lacksRight s (DumpRange r) = not (inOneRegion dumpRight (s .regions) (s .count) r)
+lacksRight s CancelDump = false
+lacksRight s (LoadRange r) = not (inOneRegion loadRight (s .regions) (s .count) r)
+lacksRight s (CountPool i) = false
+lacksRight s (TellValue v) = false
 
 -- a place is busy with the transaction number t
 unfoldable pub anyWith : ℕ → List Place → Bool
@@ -91,42 +155,46 @@ unfoldable pub anyIdle : List Place → Bool
 anyIdle ps = anyBelow (λ i. isIdle (contextAt ps i)) 4
 
 -- 12: dump: transaction number already busy
-abbrev pub numberTaken : State → ℕ → Decoded → Bool
-numberTaken s t Unknown = false
-numberTaken s t (Known (Dump q)) = anyWith t (s .places)
-numberTaken s t (Known Cancel) = false
-numberTaken s t (Known (Load q)) = false
-numberTaken s t (Known (PoolStatistics i)) = false
+abbrev pub numberTaken : State → ℕ → Task → Bool
+numberTaken s t Nothing = false
+numberTaken s t (DumpRange r) = anyWith t (s .places)
+numberTaken s t CancelDump = false
+numberTaken s t (LoadRange r) = false
+numberTaken s t (CountPool i) = false
+numberTaken s t (TellValue v) = false
 
 -- 13: dump: four places busy
-abbrev pub noPlace : State → Decoded → Bool
-noPlace s Unknown = false
-noPlace s (Known (Dump q)) = not (anyIdle (s .places))
-noPlace s (Known Cancel) = false
-noPlace s (Known (Load q)) = false
-noPlace s (Known (PoolStatistics i)) = false
+abbrev pub noPlace : State → Task → Bool
+noPlace s Nothing = false
+noPlace s (DumpRange r) = not (anyIdle (s .places))
+noPlace s CancelDump = false
+noPlace s (LoadRange r) = false
+noPlace s (CountPool i) = false
+noPlace s (TellValue v) = false
 
 -- 14: cancel: no busy dump has that number
-abbrev pub noSuchDump : State → ℕ → Decoded → Bool
-noSuchDump s t Unknown = false
-noSuchDump s t (Known (Dump q)) = false
-noSuchDump s t (Known Cancel) = not (anyWith t (s .places))
-noSuchDump s t (Known (Load q)) = false
-noSuchDump s t (Known (PoolStatistics i)) = false
+abbrev pub noSuchDump : State → ℕ → Task → Bool
+noSuchDump s t Nothing = false
+noSuchDump s t (DumpRange r) = false
+noSuchDump s t CancelDump = not (anyWith t (s .places))
+noSuchDump s t (LoadRange r) = false
+noSuchDump s t (CountPool i) = false
+noSuchDump s t (TellValue v) = false
 
 -- the words of pool i, as the image holds them
 abbrev pub poolWords : State → ℕ → List ℕ → List ℕ
 poolWords s i image = wordsOf (s .regions) (s .count) (poolAt (s .pools) i) image
 
 -- 15: pool blocks damaged
-abbrev pub poolDamaged : State → List ℕ → Decoded → Bool
-poolDamaged s image Unknown = false
-poolDamaged s image (Known (Dump q)) = false
-poolDamaged s image (Known Cancel) = false
-poolDamaged s image (Known (Load q)) = false
-poolDamaged s image (Known (PoolStatistics i)) = isDamaged (blocksOf (poolWords s i image))
+abbrev pub poolDamaged : State → List ℕ → Task → Bool
+poolDamaged s image Nothing = false
+poolDamaged s image (DumpRange r) = false
+poolDamaged s image CancelDump = false
+poolDamaged s image (LoadRange r) = false
+poolDamaged s image (CountPool i) = isDamaged (blocksOf (poolWords s i image))
+poolDamaged s image (TellValue v) = false
 
--- a command call's rows of the table of result numbers: 1 to 15
+-- a command call's rows of the table of result numbers, in the order of its tests: 1 to 8, 17, 9, 18, 9 again, and 10 to 15
 unfoldable pub commandRows : State → CommandArgs → List Row
 commandRows s c =
     lentRows s (c .image) replyLength (c .reply)
@@ -135,20 +203,23 @@ commandRows s c =
     ∷ row UnknownCode (isUnknown (decode (c .packet)))
     ∷ row PacketLength (wrongLength (c .packet) (decode (c .packet)))
     ∷ row OtherUnit (not (eqb (commandUnit (c .packet)) (s .unit)))
-    ∷ row BadField (wrongField (decode (c .packet)))
-    ∷ row OutsideRegions (outside s (decode (c .packet)))
-    ∷ row NoRight (lacksRight s (decode (c .packet)))
-    ∷ row TransactionBusy (numberTaken s (commandTransaction (c .packet)) (decode (c .packet)))
-    ∷ row PlacesBusy (noPlace s (decode (c .packet)))
-    ∷ row NotBusy (noSuchDump s (commandTransaction (c .packet)) (decode (c .packet)))
-    ∷ row PoolDamaged (poolDamaged s (c .image) (decode (c .packet)))
+    ∷ row BadTable (noTable (c .symbols) (decode (c .packet)))
+    ∷ row BadField (wrongField (c .packet) (decode (c .packet)))
+    ∷ row UnknownSymbol (unknownName (c .symbols) (nameIn (c .packet)) (decode (c .packet)))
+    ∷ row BadField (wrongRange (c .symbols) (nameIn (c .packet)) (decode (c .packet)))
+    ∷ row OutsideRegions (outside s (task c))
+    ∷ row NoRight (lacksRight s (task c))
+    ∷ row TransactionBusy (numberTaken s (commandTransaction (c .packet)) (task c))
+    ∷ row PlacesBusy (noPlace s (task c))
+    ∷ row NotBusy (noSuchDump s (commandTransaction (c .packet)) (task c))
+    ∷ row PoolDamaged (poolDamaged s (c .image) (task c))
     ∷ []
 
 -- THE EFFECTS
 
--- a state with other places, packet count of the replies and counts of commands; the rest as it was
-abbrev pub changed : State → List Place → ℕ → ℕ → ℕ → State
-changed s places replies accepted refused =
+-- a state with other places, packet counts of the replies and the values, and counts of commands; the rest as it was
+abbrev pub changed : State → List Place → ℕ → ℕ → ℕ → ℕ → State
+changed s places replies values accepted refused =
     record {
       regions = s .regions;
       count = s .count;
@@ -157,6 +228,7 @@ changed s places replies accepted refused =
       places = places;
       last = s .last;
       replies = replies;
+      values = values;
       packets = s .packets;
       accepted = accepted;
       refused = refused;
@@ -174,7 +246,7 @@ abbrev pub refusedCommand : State → CommandArgs → Refusal → Outcome
 refusedCommand s c r =
     record {
       answer = Refused r;
-      state = cond (counted r) (changed s (s .places) (s .replies) (s .accepted) (refusedMore s)) s;
+      state = cond (counted r) (changed s (s .places) (s .replies) (s .values) (s .accepted) (refusedMore s)) s;
       image = c .image;
       buffer = c .reply;
     }
@@ -200,45 +272,56 @@ replied s c i damaged = refusedCommand s c PoolDamaged
 replied s c i (whole bs) =
     record {
       answer = Done (record { length = replyLength });
-      state = changed s (s .places) ((s .replies + 1) % 16384) (acceptedMore s) (s .refused);
+      state = changed s (s .places) ((s .replies + 1) % 16384) (s .values) (acceptedMore s) (s .refused);
       image = c .image;
       buffer = splice (c .reply) 0 (replyBytes (s .replies) (s .unit) (commandTransaction (c .packet)) i bs);
     }
 
+-- the reply that tells a symbol's value, whose packet count is then raised modulo 16,384
+abbrev pub told : State → CommandArgs → ℕ → Outcome
+told s c v =
+    record {
+      answer = Done (record { length = valueLength });
+      state = changed s (s .places) (s .replies) ((s .values + 1) % 16384) (acceptedMore s) (s .refused);
+      image = c .image;
+      buffer = splice (c .reply) 0 (valueBytes (s .values) (s .unit) (commandTransaction (c .packet)) v);
+    }
+
 -- what a command does whose tests all passed
-abbrev pub carryOut : State → CommandArgs → Decoded → Outcome
-carryOut s c Unknown = refusedCommand s c UnknownCode
-carryOut s c (Known (Dump q)) =
+abbrev pub carryOut : State → CommandArgs → Task → Outcome
+carryOut s c Nothing = refusedCommand s c UnknownCode
+carryOut s c (DumpRange r) =
     record {
       answer = Done (record { length = 0 });
       state =
           changed s
-          (setContext (s .places) (firstIdle (s .places)) (Busy (newDump (commandTransaction (c .packet)) (requested q))))
-          (s .replies) (acceptedMore s) (s .refused);
+          (setContext (s .places) (firstIdle (s .places)) (Busy (newDump (commandTransaction (c .packet)) r)))
+          (s .replies) (s .values) (acceptedMore s) (s .refused);
       image = c .image;
       buffer = c .reply;
     }
-carryOut s c (Known Cancel) =
+carryOut s c CancelDump =
     record {
       answer = Done (record { length = 0 });
       state =
           changed s (setContext (s .places) (firstWith (commandTransaction (c .packet)) (s .places)) Idle)
-          (s .replies) (acceptedMore s) (s .refused);
+          (s .replies) (s .values) (acceptedMore s) (s .refused);
       image = c .image;
       buffer = c .reply;
     }
-carryOut s c (Known (Load q)) =
+carryOut s c (LoadRange r) =
     record {
       answer = Done (record { length = 0 });
-      state = changed s (s .places) (s .replies) (acceptedMore s) (s .refused);
-      image = splice (c .image) (imageIndex (s .regions) (s .count) (requested q) .0) (take (q .size) (dataWords (c .packet)));
+      state = changed s (s .places) (s .replies) (s .values) (acceptedMore s) (s .refused);
+      image = splice (c .image) (imageIndex (s .regions) (s .count) r .0) (take (r .words) (dataWords (c .packet)));
       buffer = c .reply;
     }
-carryOut s c (Known (PoolStatistics i)) = replied s c i (blocksOf (poolWords s i (c .image)))
+carryOut s c (CountPool i) = replied s c i (blocksOf (poolWords s i (c .image)))
+carryOut s c (TellValue v) = told s c v
 
 abbrev pub conclude : State → CommandArgs → Verdict → Outcome
 conclude s c (Rejected r) = refusedCommand s c r
-conclude s c Accepted = carryOut s c (decode (c .packet))
+conclude s c Accepted = carryOut s c (task c)
 
 -- THE COMMAND CALL
 unfoldable pub commandCall : State → CommandArgs → Outcome

@@ -1,5 +1,6 @@
--- DEMAND 1: safe, exact refusals. Over every state, packet, image and buffer of any content and length: each number is given exactly in
--- its case, the lowest first, and a refusal leaves all as it was, save a refused count where paper 01's "Result numbers" says so.
+-- DEMAND 1: safe, exact refusals. Over every state, packet, symbol table, image and buffer of any content and length: each number is given
+-- exactly in its case, the first in the order laid down, which is the lowest but for commands that name a symbol; and a refusal leaves all as it
+-- was, save a refused count where paper 01's "Result numbers" and paper 02, A2 say so.
 -- That every call ends and touches only what it was lent is no statement here: the checker proves it of each function that has a body.
 use mathlib.Core.Path.{_≡_}
 use mathlib.Core.Logic.{_≢_, _↔_}
@@ -7,11 +8,12 @@ use mathlib.Core.Bool.{Bool, true, false, _&&_, _||_}
 use mathlib.Core.List.{List, [], _∷_, _++_}
 use Prim.Native.Nat.{ℕ, _+_, _-_, _%_, _<_}
 use lib.Dec.{eqb}
-use lib.ListN.{length, take, drop, replicate}
+use lib.ListN.{length, getD, take, drop, replicate}
 use Rattle.rules.specs.States.{startRules, startUp}
+use Rattle.rules.specs.Packets.{functionCodeOf}
 use Rattle.rules.specs.Results.{number, verdictNumber, answerNumber, answerLength, Row}
 use Rattle.rules.specs.AnswerNumbers.{AnswerNumbers}
-use Rattle.rules.specs.Cases.{applies, oneOf, bytesOf, LayoutCases, CommandCases, SlotCases, WriterCases, PacketCases}
+use Rattle.rules.specs.Cases.{applies, appliesAt, oneOf, bytesOf, ReaderCases, CommandCases, SlotCases, WriterCases, PacketCases}
 use Rattle.rules.specs.Commands.{CommandArgs, Outcome, commandRows, commandCall}
 use Rattle.rules.specs.Slots.{SlotArgs, slotRows, slotCall}
 use Rattle.rules.specs.Ground.{writerRows, writeCommand, readerRows, readCommand, readingNumber, packetRows, readPacket, packetNumber}
@@ -34,16 +36,27 @@ pub record Lowest (rows : List Row) (k : ℕ) : Type 0 where
   pub refused : (j : ℕ) → 0 < j → (k ≡ j) ↔ ((applies j rows ≡ true) × ((i : ℕ) → i < j → applies i rows ≡ false))
   pub done : (k ≡ 0) ↔ ((i : ℕ) → applies i rows ≡ false)
 
+-- the row at place i is the first that applies, and its number is k
+pub record FirstAt (rows : List Row) (i k : ℕ) : Type 0 where
+  pub number : getD (numbersOf rows) i 0 ≡ k
+  pub there : appliesAt i rows ≡ true
+  pub none-before : (j : ℕ) → j < i → appliesAt j rows ≡ false
+
+-- k is the number of the first row that applies, and 0 if none does: each number is given exactly in its case
+pub record First (rows : List Row) (k : ℕ) : Type 0 where
+  pub refused : (j : ℕ) → 0 < j → (k ≡ j) ↔ ((i : ℕ) × FirstAt rows i j)
+  pub done : (k ≡ 0) ↔ ((i : ℕ) → appliesAt i rows ≡ false)
+
 -- numbers that return the state as handed in, and numbers that add one to the refused count and change no other part of the state
 abbrev pub keepsState : ℕ → Bool
 keepsState k = oneOf k (1 ∷ 2 ∷ 3 ∷ 5 ∷ 8 ∷ 16 ∷ [])
 
 abbrev pub countsRefused : ℕ → Bool
-countsRefused k = oneOf k (4 ∷ 6 ∷ 7 ∷ 9 ∷ 10 ∷ 11 ∷ 12 ∷ 13 ∷ 14 ∷ 15 ∷ [])
+countsRefused k = oneOf k (4 ∷ 6 ∷ 7 ∷ 9 ∷ 10 ∷ 11 ∷ 12 ∷ 13 ∷ 14 ∷ 15 ∷ 17 ∷ 18 ∷ [])
 
 -- every part of the state, by name: what a call may change, and the rest as it was
-abbrev pub stateWith : State → List Place → ℕ → ℕ → ℕ → ℕ → ℕ → State
-stateWith s places last replies packets accepted refused =
+abbrev pub stateWith : State → List Place → ℕ → ℕ → ℕ → ℕ → ℕ → ℕ → State
+stateWith s places last replies values packets accepted refused =
     record {
       regions = s .regions;
       count = s .count;
@@ -52,22 +65,27 @@ stateWith s places last replies packets accepted refused =
       places = places;
       last = last;
       replies = replies;
+      values = values;
       packets = packets;
       accepted = accepted;
       refused = refused;
     }
 
 pub record CommandRefusals (s : State) (c : CommandArgs) (o : Outcome) : Type 0 where
-  pub numbers : numbersOf (commandRows s c) ≡ 1 ∷ 2 ∷ 3 ∷ 4 ∷ 5 ∷ 6 ∷ 7 ∷ 8 ∷ 9 ∷ 10 ∷ 11 ∷ 12 ∷ 13 ∷ 14 ∷ 15 ∷ []
+  pub numbers : numbersOf (commandRows s c) ≡ 1 ∷ 2 ∷ 3 ∷ 4 ∷ 5 ∷ 6 ∷ 7 ∷ 8 ∷ 17 ∷ 9 ∷ 18 ∷ 9 ∷ 10 ∷ 11 ∷ 12 ∷ 13 ∷ 14 ∷ 15 ∷ []
   pub cases : CommandCases (commandRows s c) s c
-  pub lowest : Lowest (commandRows s c) (answerNumber (o .answer))
+  pub first : First (commandRows s c) (answerNumber (o .answer))
+  pub lowest : functionCodeOf (c .packet) ≢ 8 → functionCodeOf (c .packet) ≢ 9 → Lowest (commandRows s c) (answerNumber (o .answer))
   -- on every number but 0 image and reply buffer stay, and no length is reported
   pub kept : answerNumber (o .answer) ≢ 0 → (o .image ≡ c .image) × (o .buffer ≡ c .reply) × (answerLength (o .answer) ≡ 0)
   pub same : keepsState (answerNumber (o .answer)) ≡ true → o .state ≡ s
   pub one-more : countsRefused (answerNumber (o .answer)) ≡ true
-      → o .state ≡ stateWith s (s .places) (s .last) (s .replies) (s .packets) (s .accepted) ((s .refused + 1) % 65536)
+      → o .state ≡ stateWith s (s .places) (s .last) (s .replies) (s .values) (s .packets) (s .accepted) ((s .refused + 1) % 65536)
   -- number 0 adds one to the accepted count, and to no refused count
   pub accepted : answerNumber (o .answer) ≡ 0 → (o .state .accepted ≡ (s .accepted + 1) % 65536) × (o .state .refused ≡ s .refused)
+  -- a command that names no symbol is answered and carried out alike whatever symbol table is lent
+  pub no-symbol : functionCodeOf (c .packet) ≢ 8 → functionCodeOf (c .packet) ≢ 9 → (symbols : List ℕ)
+      → commandCall s (record { packet = c .packet; symbols = symbols; image = c .image; reply = c .reply }) ≡ o
   -- what was lent keeps its length
   pub lent : (length (o .image) ≡ length (c .image)) × (length (o .buffer) ≡ length (c .reply))
 
@@ -93,6 +111,7 @@ pub record StartRefusals (rs : List Region) (n : ℕ) (pools : List Range) (unit
         places = replicate 4 (record { context = Idle });
         last = 3;
         replies = 0;
+        values = 0;
         packets = 0;
         accepted = 0;
         refused = 0;
@@ -112,6 +131,7 @@ pub record StartRefusals (rs : List Region) (n : ℕ) (pools : List Range) (unit
         places = replicate 4 (record { context = Idle });
         last = 3;
         replies = 0;
+        values = 0;
         packets = 0;
         accepted = 0;
         refused = 0;
@@ -127,9 +147,9 @@ pub record GroundRefusals (h : Header) (k : Command) (ws buffer p : List ℕ) : 
   -- bytes past the packet stay
   pub writer-rest : drop (bytesOf k) (writeCommand h k ws buffer .buffer) ≡ drop (bytesOf k) buffer
   pub reader-numbers : numbersOf (readerRows p) ≡ 4 ∷ 5 ∷ 6 ∷ 7 ∷ 9 ∷ []
-  pub reader-cases : LayoutCases (readerRows p) p
+  pub reader-cases : ReaderCases (readerRows p) p
   pub reader : Lowest (readerRows p) (readingNumber (readCommand p .reading))
-  pub reader-empty : readingNumber (readCommand p .reading) ≢ 0 → readCommand p .words ≡ replicate 11 0
+  pub reader-empty : readingNumber (readCommand p .reading) ≢ 0 → readCommand p .words ≡ replicate 12 0
   pub packet-numbers : numbersOf (packetRows p) ≡ 4 ∷ 5 ∷ 7 ∷ 9 ∷ []
   pub packet-cases : PacketCases (packetRows p) p
   pub packet : Lowest (packetRows p) (packetNumber (readPacket p .reading))

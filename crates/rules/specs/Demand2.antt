@@ -1,5 +1,6 @@
 -- DEMAND 2: exact effect. With a good state and buffers that fit, a command is accepted exactly when the layouts, the unit, the region
--- table, the busy dumps and, for pool figures, the blocks allow it, and then does exactly what paper 01 says.
+-- table, the busy dumps, for pool figures the blocks and, where a symbol is named, the symbol table allow it, and then does exactly what papers
+-- 01 and 02 (A2) say.
 use mathlib.Core.Path.{_≡_}
 use mathlib.Core.Logic.{_≢_, _↔_}
 use mathlib.Core.Bool.{Bool, true, false, cond, not}
@@ -10,10 +11,12 @@ use Rattle.wire.specs.Bytes.{AreBytes}
 use Rattle.wire.specs.ByByte.{two, four}
 use Rattle.rules.specs.Regions.{startOf, inOneRegion, imageLength}
 use Rattle.rules.specs.States.{startRules, startUp, poolAt, contextAt, busyWith, goodState}
-use Rattle.rules.specs.Cases.{Formed, rangeOf, poolOf, NumberFree, NumberBusy, PlaceFree}
+use Rattle.rules.specs.Cases.{Formed, rangeOf, rangeFrom, nameFrom, poolOf, NameAllowed, NumberFree, NumberBusy, PlaceFree}
 use Rattle.rules.specs.GoodWhen.{LiesIn, DumpableIn, Lies, firstWord, GoodStart, Good}
 use Rattle.rules.specs.Packets.{functionCodeOf, apidOf, commandUnit, commandTransaction}
 use Rattle.rules.specs.Pools.{Block, blockOf, Tiles, isFree, isUsed, words, blocks, largest}
+use Rattle.rules.specs.Values.{Reached}
+use Rattle.symbols.specs.Table.{symbolTable, hasName, valueOf, IsTable, Named}
 use Rattle.rules.specs.Results.{verdictNumber, answerNumber, answerLength}
 use Rattle.rules.specs.Commands.{CommandArgs, Outcome, commandCall, poolWords}
 use Rattle.rules.specs.Demand1.{stateWith}
@@ -58,6 +61,30 @@ pub record PoolAllowed (s : State) (c : CommandArgs) : Type 0 where
   pub there : poolAt (s .pools) (poolOf (c .packet)) .words ≢ 0
   pub blocks : (bs : List Block) × Tiles (poolWords s (poolOf (c .packet)) (c .image)) bs
 
+-- a symbol is named, in a packet of so many bytes, that the lent table has; it resolves to v
+pub record SymbolNamed (c : CommandArgs) (n v : ℕ) : Type 0 where
+  pub bytes : length (c .packet) ≡ n
+  pub table : IsTable (c .symbols)
+  pub allowed : NameAllowed (c .packet)
+  pub named : Named (c .symbols) (nameFrom (c .packet)) v
+
+abbrev pub ValueAllowed : CommandArgs → Type 0
+ValueAllowed c = (v : ℕ) × SymbolNamed c 60 v
+
+-- the name resolves to a value whose address, with the offset, and size could be dumped
+pub record ByNameAllowed (s : State) (c : CommandArgs) : Type 0 where
+  pub v : ℕ
+  pub symbol : SymbolNamed c 68 v
+  pub zeros : two (c .packet) 66 ≡ 0
+  pub a : ℕ
+  pub reached : Reached v (four (c .packet) 60) a
+  pub below : a < 4294967296
+  pub aligned : a % 4 ≡ 0
+  pub some : 1 ≤ two (c .packet) 64
+  pub region : DumpableIn (s .regions) (s .count) (rangeFrom (c .packet) a)
+  pub number : NumberFree s (c .packet)
+  pub place : PlaceFree s
+
 -- a command is accepted: answered 0
 abbrev pub IsAccepted : State → CommandArgs → Type 0
 IsAccepted s c = answerNumber (commandCall s c .answer) ≡ 0
@@ -68,8 +95,10 @@ pub record AcceptedWhen (s : State) (c : CommandArgs) : Type 0 where
   pub cancel : functionCodeOf (c .packet) ≡ 1 → IsAccepted s c ↔ (ForThisBox s (c .packet) × CancelAllowed s (c .packet))
   pub load : functionCodeOf (c .packet) ≡ 4 → IsAccepted s c ↔ (ForThisBox s (c .packet) × LoadAllowed s (c .packet))
   pub pool : functionCodeOf (c .packet) ≡ 7 → IsAccepted s c ↔ (ForThisBox s (c .packet) × PoolAllowed s c)
+  pub value : functionCodeOf (c .packet) ≡ 8 → IsAccepted s c ↔ (ForThisBox s (c .packet) × ValueAllowed c)
+  pub by-name : functionCodeOf (c .packet) ≡ 9 → AreBytes (c .packet) → IsAccepted s c ↔ (ForThisBox s (c .packet) × ByNameAllowed s c)
   pub other : functionCodeOf (c .packet) ≢ 0 → functionCodeOf (c .packet) ≢ 1 → functionCodeOf (c .packet) ≢ 4
-      → functionCodeOf (c .packet) ≢ 7 → IsAccepted s c → ⊥
+      → functionCodeOf (c .packet) ≢ 7 → functionCodeOf (c .packet) ≢ 8 → functionCodeOf (c .packet) ≢ 9 → IsAccepted s c → ⊥
 
 -- WHAT AN ACCEPTED COMMAND DOES
 
@@ -79,19 +108,19 @@ pub record OnePlace (before : List Place) (i : ℕ) (now : List Place) : Type 0 
   pub four : length now ≡ 4
   pub others : (j : ℕ) → j ≢ i → contextAt now j ≡ contextAt before j
 
--- the state after an accepted command: with these places and count of replies, one more accepted, and all else as it was
-abbrev pub afterCommand : State → List Place → ℕ → State
-afterCommand s places replies = stateWith s places (s .last) replies (s .packets) ((s .accepted + 1) % 65536) (s .refused)
+-- the state after an accepted command: with these places and counts of replies and values, one more accepted, and all else as it was
+abbrev pub afterCommand : State → List Place → ℕ → ℕ → State
+afterCommand s places replies values = stateWith s places (s .last) replies values (s .packets) ((s .accepted + 1) % 65536) (s .refused)
 
--- the lowest-numbered idle place is busy with the dump, of which nothing was sent
-pub record DumpDone (s : State) (c : CommandArgs) (o : Outcome) : Type 0 where
+-- the lowest-numbered idle place is busy with the dump of the range r, of which nothing was sent
+pub record DumpDone (s : State) (c : CommandArgs) (r : Range) (o : Outcome) : Type 0 where
   pub i : ℕ
   pub idle : contextAt (s .places) i ≡ Idle
   pub lowest : (j : ℕ) → j < i → contextAt (s .places) j ≢ Idle
   pub now : contextAt (o .state .places) i
-      ≡ Busy (record { transaction = commandTransaction (c .packet); range = rangeOf (c .packet); sent = 0 })
+      ≡ Busy (record { transaction = commandTransaction (c .packet); range = r; sent = 0 })
   pub rest : OnePlace (s .places) i (o .state .places)
-  pub state : o .state ≡ afterCommand s (o .state .places) (s .replies)
+  pub state : o .state ≡ afterCommand s (o .state .places) (s .replies) (s .values)
   pub image : o .image ≡ c .image
   pub reply : (o .buffer ≡ c .reply) × (answerLength (o .answer) ≡ 0)
 
@@ -101,7 +130,7 @@ pub record CancelDone (s : State) (c : CommandArgs) (o : Outcome) : Type 0 where
   pub busy : busyWith (commandTransaction (c .packet)) (contextAt (s .places) i) ≡ true
   pub now : contextAt (o .state .places) i ≡ Idle
   pub rest : OnePlace (s .places) i (o .state .places)
-  pub state : o .state ≡ afterCommand s (o .state .places) (s .replies)
+  pub state : o .state ≡ afterCommand s (o .state .places) (s .replies) (s .values)
   pub image : o .image ≡ c .image
   pub reply : (o .buffer ≡ c .reply) × (answerLength (o .answer) ≡ 0)
 
@@ -118,7 +147,7 @@ pub record LoadDone (s : State) (c : CommandArgs) (o : Outcome) : Type 0 where
   pub written : (k : ℕ) → k < rangeOf (c .packet) .words → getD (o .image) (first + k) 0 ≡ four (c .packet) (16 + 4 * k)
   pub below : (x : ℕ) → x < first → getD (o .image) x 0 ≡ getD (c .image) x 0
   pub above : (x : ℕ) → first + rangeOf (c .packet) .words ≤ x → getD (o .image) x 0 ≡ getD (c .image) x 0
-  pub state : o .state ≡ afterCommand s (s .places) (s .replies)
+  pub state : o .state ≡ afterCommand s (s .places) (s .replies) (s .values)
   pub reply : (o .buffer ≡ c .reply) × (answerLength (o .answer) ≡ 0)
 
 -- THE FIGURES IN LOGIC
@@ -171,14 +200,36 @@ pub record PoolDone (s : State) (c : CommandArgs) (o : Outcome) : Type 0 where
   pub header : TelemetryHeader 785 (s .replies) (s .unit) (commandTransaction (c .packet)) (take 32 (o .buffer))
   pub pool : (two (o .buffer) 8 ≡ poolOf (c .packet)) × (two (o .buffer) 10 ≡ 0)
   pub rest : drop 32 (o .buffer) ≡ drop 32 (c .reply)
-  pub state : o .state ≡ afterCommand s (s .places) ((s .replies + 1) % 16384)
+  pub state : o .state ≡ afterCommand s (s .places) ((s .replies + 1) % 16384) (s .values)
   pub image : o .image ≡ c .image
 
+-- The reply has the value that the symbol resolves to, as a word at byte 8; its packet count is raised.
+pub record ValueDone (s : State) (c : CommandArgs) (o : Outcome) : Type 0 where
+  pub v : ℕ
+  pub symbol : SymbolNamed c 60 v
+  pub value : four (o .buffer) 8 ≡ v
+  pub reported : answerLength (o .answer) ≡ 12
+  -- a telemetry packet of APID 786 with its own count, the box's unit and the command's transaction number
+  pub header : TelemetryHeader 786 (s .values) (s .unit) (commandTransaction (c .packet)) (take 12 (o .buffer))
+  pub rest : drop 12 (o .buffer) ≡ drop 12 (c .reply)
+  pub state : o .state ≡ afterCommand s (s .places) (s .replies) ((s .values + 1) % 16384)
+  pub image : o .image ≡ c .image
+
+-- A dump by name is the dump of the range that its name resolves to.
+pub record ByNameDone (s : State) (c : CommandArgs) (o : Outcome) : Type 0 where
+  pub v : ℕ
+  pub symbol : SymbolNamed c 68 v
+  pub a : ℕ
+  pub reached : Reached v (four (c .packet) 60) a
+  pub dump : DumpDone s c (rangeFrom (c .packet) a) o
+
 pub record Effects (s : State) (c : CommandArgs) : Type 0 where
-  pub dump : functionCodeOf (c .packet) ≡ 0 → DumpDone s c (commandCall s c)
+  pub dump : functionCodeOf (c .packet) ≡ 0 → DumpDone s c (rangeOf (c .packet)) (commandCall s c)
   pub cancel : functionCodeOf (c .packet) ≡ 1 → CancelDone s c (commandCall s c)
   pub load : functionCodeOf (c .packet) ≡ 4 → LoadDone s c (commandCall s c)
   pub pool : functionCodeOf (c .packet) ≡ 7 → PoolDone s c (commandCall s c)
+  pub value : functionCodeOf (c .packet) ≡ 8 → AreBytes (c .symbols) → ValueDone s c (commandCall s c)
+  pub by-name : functionCodeOf (c .packet) ≡ 9 → AreBytes (c .packet) → ByNameDone s c (commandCall s c)
 
 -- SLOTS
 
@@ -199,7 +250,7 @@ pub record SlotDone (s : State) (c : SlotArgs) (o : Outcome) : Type 0 where
       ≡ Busy (record { transaction = dump .transaction; range = dump .range; sent = dump .sent + 1016 })
   pub freed : dump .range .words ≤ dump .sent + 1016 → contextAt (o .state .places) ((s .last + 1 + k) % 4) ≡ Idle
   pub others : OnePlace (s .places) ((s .last + 1 + k) % 4) (o .state .places)
-  pub state : o .state ≡ stateWith s (o .state .places) ((s .last + 1 + k) % 4) (s .replies) ((s .packets + 1) % 16384) (s .accepted) (s .refused)
+  pub state : o .state ≡ stateWith s (o .state .places) ((s .last + 1 + k) % 4) (s .replies) (s .values) ((s .packets + 1) % 16384) (s .accepted) (s .refused)
 
 pub record SlotExact (s : State) (c : SlotArgs) : Type 0 where
   pub when : (answerNumber (slotCall s c .answer) ≡ 0) ↔ ((i : ℕ) × (i < 4) × (contextAt (s .places) i ≢ Idle))
@@ -220,6 +271,9 @@ pub record Demand2 : Type 0 where
   pub region-when : (right : Region → Bool) (rs : List Region) (n : ℕ) (a : Range) → (inOneRegion right rs n a ≡ true) ↔ ((i : ℕ) × LiesIn right rs n a i)
   pub start-when : (rs : List Region) (n : ℕ) (pools : List Range) (unit : ℕ) → (startRules rs n pools unit ≡ true) ↔ GoodStart rs n pools unit
   pub good-when : (s : State) → (goodState s ≡ true) ↔ Good s
+  -- a symbol table is one exactly when its rules hold, and each of its names resolves to one value
+  pub table-when : (t : List ℕ) → (symbolTable t ≡ true) ↔ IsTable t
+  pub resolves-when : (t name : List ℕ) (v : ℕ) → IsTable t → Named t name v ↔ ((hasName t name ≡ true) × (valueOf t name ≡ v))
   -- a good state stays good under every call, and start-up answered 0 gives a good one
   pub command-good : (s : State) (c : CommandArgs) → AreBytes (c .packet) → goodState s ≡ true → goodState (commandCall s c .state) ≡ true
   pub slot-good : (s : State) (c : SlotArgs) → goodState s ≡ true → goodState (slotCall s c .state) ≡ true

@@ -1,26 +1,29 @@
 -- DEMAND 3: no dump waits for ever. One claim about a whole list of calls from a fresh start, by the last paragraph of paper 01's
 -- "Telemetry slots". It speaks of what is lent to the calls and what they answer and write.
 use mathlib.Core.Path.{_≡_}
+use mathlib.Core.Logic.{_≢_}
 use mathlib.Core.Bool.{Bool, true, false, _&&_, cond}
 use mathlib.Core.List.{List, [], _∷_, _++_}
 use Prim.Native.Nat.{ℕ, zero, suc, _+_, _*_, _-_, _/_, _≤_, _<_}
 use lib.Dec.{leb, eqb}
 use lib.ListN.{length, take, drop}
 use Rattle.wire.specs.Bytes.{AreBytes, wordBytes}
+use Rattle.wire.specs.ByByte.{four}
+use Rattle.symbols.specs.Table.{IsTable, Named}
 use Rattle.rules.specs.Regions.{startOf, imageLength, wordsOf}
 use Rattle.rules.specs.States.{startUp, entriesUsed, pieceWords}
-use Rattle.rules.specs.Packets.{decode, requested, commandTransaction, transactionAt}
+use Rattle.rules.specs.Packets.{functionCodeOf, commandTransaction, transactionAt}
+use Rattle.rules.specs.Values.{Reached}
+use Rattle.rules.specs.Cases.{rangeOf, nameFrom, rangeFrom}
 use Rattle.rules.specs.Results.{verdictNumber, answerNumber, answerLength}
-use Rattle.rules.specs.Commands.{CommandArgs, Outcome, commandCall}
+use Rattle.rules.specs.Commands.{CommandArgs, Outcome, task, commandCall}
 use Rattle.rules.specs.Slots.{SlotArgs, slotCall, longestPacket, packetHeader}
 use Rattle.rules.specs.Ground.{packetFields}
 use Rattle.rules.specs.declared.State.{State}
 use Rattle.rules.specs.declared.Region.{Region}
 use Rattle.rules.specs.declared.Range.{Range}
-use Rattle.rules.specs.declared.Command.{Command}
-use Rattle.rules.specs.declared.Command.the-variants.{Dump, Cancel, Load, PoolStatistics}
-use Rattle.rules.specs.declared.Decoded.{Decoded}
-use Rattle.rules.specs.declared.Decoded.the-variants.{Unknown, Known}
+use Rattle.rules.specs.declared.Task.{Task}
+use Rattle.rules.specs.declared.Task.the-variants.{Nothing, DumpRange, CancelDump, LoadRange, CountPool, TellValue}
 
 -- THE LIST OF CALLS: commands of any bytes and slots, each lent what it likes
 
@@ -49,22 +52,32 @@ abbrev pub events : State → List Call → List Event
 events s [] = []
 events s (c ∷ cs) = record { given = s; call = c; out = step s c } ∷ events (step s c .state) cs
 
--- what a call asks of the dump places, by its bytes: a dump of a range or a cancel, with their transaction number
+-- what a call asks of the dump places, by what it is lent: a dump of a range or a cancel, with their transaction number. A dump by name asks for
+-- the range that its name resolves to in the symbol table lent to its call.
 pub data Asked : Type 0 where
   nothing : Asked
   dump : ℕ → Range → Asked
   cancel : ℕ → Asked
 
-abbrev pub askedBy : ℕ → Decoded → Asked
-askedBy t Unknown = nothing
-askedBy t (Known (Dump q)) = dump t (requested q)
-askedBy t (Known Cancel) = cancel t
-askedBy t (Known (Load q)) = nothing
-askedBy t (Known (PoolStatistics i)) = nothing
+abbrev pub askedBy : ℕ → Task → Asked
+askedBy t Nothing = nothing
+askedBy t (DumpRange r) = dump t r
+askedBy t CancelDump = cancel t
+askedBy t (LoadRange r) = nothing
+askedBy t (CountPool i) = nothing
+askedBy t (TellValue v) = nothing
 
 abbrev pub asked : Call → Asked
-asked (command c) = askedBy (commandTransaction (c .packet)) (decode (c .packet))
+asked (command c) = askedBy (commandTransaction (c .packet)) (task c)
 asked (slot c) = nothing
+
+-- the same in logic, by function code and by the bytes: what fixes `asked`
+pub record AskedIs (c : CommandArgs) : Type 0 where
+  pub dumps : functionCodeOf (c .packet) ≡ 0 → asked (command c) ≡ dump (commandTransaction (c .packet)) (rangeOf (c .packet))
+  pub cancels : functionCodeOf (c .packet) ≡ 1 → asked (command c) ≡ cancel (commandTransaction (c .packet))
+  pub by-name : functionCodeOf (c .packet) ≡ 9 → (v a : ℕ) → IsTable (c .symbols) → Named (c .symbols) (nameFrom (c .packet)) v
+      → Reached v (four (c .packet) 60) a → asked (command c) ≡ dump (commandTransaction (c .packet)) (rangeFrom (c .packet) a)
+  pub other : functionCodeOf (c .packet) ≢ 0 → functionCodeOf (c .packet) ≢ 1 → functionCodeOf (c .packet) ≢ 9 → asked (command c) ≡ nothing
 
 abbrev pub isDump : ℕ → Asked → Bool
 isDump t nothing = false

@@ -42,7 +42,7 @@ load t n a ws = commandBytes (header 1 t) (Load (record { size = n; address = re
 
 -- a command call and a slot call, lent an image and buffers just long enough
 abbrev pub send : List ℕ → List ℕ → Call
-send image p = command (record { packet = p; image = image; reply = replicate 32 0 })
+send image p = command (record { packet = p; symbols = []; image = image; reply = replicate 32 0 })
 
 abbrev pub slotAt : List ℕ → ℕ → Call
 slotAt image tick = slot (record { tick = tick; image = image; buffer = replicate 4092 0 })

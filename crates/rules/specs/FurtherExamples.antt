@@ -74,10 +74,10 @@ pub record FurtherExamples : Type 0 where
       ∷ 0xBB ∷ 0xBB ∷ 0xBB ∷ 0xBB ∷ [])
       ∷ []
   -- the four commands, written and read
-  pub read : map (λ k. readCommand (commandBytes (forBig 300 0xFED) k (replicate 11 9)) .reading) commands
+  pub read : map (λ k. readCommand (commandBytes (forBig 300 0xFED) k (replicate 12 9)) .reading) commands
       ≡ map (λ k. Read (record { header = forBig 300 0xFED; command = k })) commands
-  pub read-words : readCommand (commandBytes (forBig 0 1) (Load (record { size = 2; address = record { 0 = 0x1004 } })) (replicate 11 9)) .words
-      ≡ 9 ∷ 9 ∷ replicate 9 0
+  pub read-words : readCommand (commandBytes (forBig 0 1) (Load (record { size = 2; address = record { 0 = 0x1004 } })) (replicate 12 9)) .words
+      ≡ 9 ∷ 9 ∷ replicate 10 0
   pub unread : readingNumber (readCommand (commandBytes (forBig 0 1) (PoolStatistics 2) []) .reading) ≡ 9
   -- the writer at its bounds and past each of them, and the bytes that it leaves
   pub bounds : map (λ h. answerNumber (writeCommand h Cancel [] (replicate 10 9) .answer))

@@ -77,6 +77,7 @@ pub record Good (s : State) : Type 0 where
   pub start : GoodStart (s .regions) (s .count) (s .pools) (s .unit)
   pub last : s .last ≤ 3
   pub replies : s .replies ≤ 16383
+  pub values : s .values ≤ 16383
   pub packets : s .packets ≤ 16383
   pub accepted : s .accepted ≤ 65535
   pub refused : s .refused ≤ 65535

@@ -1,6 +1,6 @@
--- Paper 01, "Ground reader and writer": the command writer, the command reader and the dump packet reader.
+-- Paper 01, "Ground reader and writer", and paper 02, A2: the command writer, the command reader and the dump packet reader.
 use mathlib.Core.Bool.{Bool, true, false, _&&_, not, cond}
-use mathlib.Core.List.{List, [], _∷_}
+use mathlib.Core.List.{List, [], _∷_, _++_}
 use Prim.Native.Nat.{ℕ, _+_, _*_, _-_, _/_, _%_, min}
 use lib.Dec.{leb, ltb, eqb}
 use lib.ListN.{length, drop, replicate}
@@ -8,14 +8,14 @@ use Rattle.lists.specs.Splice.{splice}
 use Rattle.wire.specs.Bytes.{beAt}
 use Rattle.rules.specs.Regions.{startOf, endOf, aligned}
 use Rattle.rules.specs.States.{pieceWords}
-use Rattle.rules.specs.Packets.{primaryRules, apidOf, headerAt, commandApid, wellFormed, decode, dataWords, packetLength, fieldRules, commandBytes}
-use Rattle.rules.specs.Commands.{isUnknown, wrongLength, wrongField}
+use Rattle.rules.specs.Packets.{primaryRules, apidOf, headerAt, commandApid, wellFormed, decode, dataWords, packetLength, fieldRules, zeroRules, nameWords, commandBytes}
+use Rattle.rules.specs.Commands.{isUnknown, wrongLength}
 use Rattle.rules.specs.Slots.{dumpApid, packetHeader}
 use Rattle.rules.specs.Results.{number, Row, row, lowest}
 use Rattle.rules.specs.declared.Header.{Header}
 use Rattle.rules.specs.declared.Range.{Range}
 use Rattle.rules.specs.declared.Command.{Command}
-use Rattle.rules.specs.declared.Command.the-variants.{Dump, Cancel, Load, PoolStatistics}
+use Rattle.rules.specs.declared.Command.the-variants.{Dump, Cancel, Load, PoolStatistics, SymbolValue, DumpSymbol}
 use Rattle.rules.specs.declared.Decoded.{Decoded}
 use Rattle.rules.specs.declared.Decoded.the-variants.{Unknown, Known}
 use Rattle.rules.specs.declared.Refusal.{Refusal}
@@ -58,6 +58,11 @@ writeCommand h k ws buffer = concludeWrite h k ws buffer (lowest (writerRows h k
 
 -- THE COMMAND READER
 
+-- 9, as far as it can be seen without a symbol table
+abbrev pub unreadable : List ℕ → Decoded → Bool
+unreadable p Unknown = false
+unreadable p (Known k) = not (fieldRules k && zeroRules p k)
+
 -- the reader's rows: 4, 5, 6, 7 and 9
 unfoldable pub readerRows : List ℕ → List Row
 readerRows p =
@@ -65,16 +70,16 @@ readerRows p =
     ∷ row OtherApid (not (eqb (apidOf p) commandApid))
     ∷ row UnknownCode (isUnknown (decode p))
     ∷ row PacketLength (wrongLength p (decode p))
-    ∷ row BadField (wrongField (decode p))
+    ∷ row BadField (unreadable p (decode p))
     ∷ []
 
--- the number of the reader's answer; the eleven data words beside it are those of a load, and else zeros
+-- the number of the reader's answer; the twelve words beside it are the eleven data words of a load and 0, those of a symbol's name, or zeros
 abbrev pub readingNumber : Reading → ℕ
 readingNumber (Unread r) = number r
 readingNumber (Read f) = 0
 
 abbrev pub noWords : List ℕ
-noWords = replicate 11 0
+noWords = replicate 12 0
 
 abbrev pub unread : Refusal → CommandRead
 unread r = record { reading = Unread r; words = noWords }
@@ -82,8 +87,10 @@ unread r = record { reading = Unread r; words = noWords }
 abbrev pub wordsBeside : List ℕ → Command → List ℕ
 wordsBeside p (Dump q) = noWords
 wordsBeside p Cancel = noWords
-wordsBeside p (Load q) = dataWords p
+wordsBeside p (Load q) = dataWords p ++ (0 ∷ [])
 wordsBeside p (PoolStatistics i) = noWords
+wordsBeside p (SymbolValue n) = nameWords p
+wordsBeside p (DumpSymbol q) = nameWords p
 
 abbrev pub fieldsRead : List ℕ → Decoded → CommandRead
 fieldsRead p Unknown = unread UnknownCode

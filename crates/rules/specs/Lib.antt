@@ -2,6 +2,7 @@ pub mod Regions
 pub mod States
 pub mod Results
 pub mod Packets
+pub mod Values
 pub mod Pools
 pub mod Commands
 pub mod Slots
@@ -15,5 +16,6 @@ pub mod Demand3
 pub mod ReadBack
 pub mod Examples
 pub mod FurtherExamples
+pub mod SymbolExamples
 pub mod PlainWords
 pub mod PlainBytes

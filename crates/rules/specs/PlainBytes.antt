@@ -1,5 +1,5 @@
 -- PACKETS IN PLAIN BYTES: what each definition that reads or writes a field says of the packet's bytes, by their offset (paper 01, "Command
--- packets", "Telemetry slots", "Ground reader and writer"). The calls and the demands share those definitions; this is what else fixes them.
+-- packets", "Telemetry slots", "Ground reader and writer"; paper 02, A2). The calls and the demands share those definitions; this is what else fixes them.
 use mathlib.Core.Path.{_≡_}
 use mathlib.Core.Logic.{_≢_}
 use mathlib.Core.List.{List}
@@ -9,16 +9,18 @@ use Rattle.wire.specs.Bytes.{AreBytes}
 use Rattle.wire.specs.ByByte.{byte, two, four}
 use Rattle.wire.specs.Xor.{xorAll}
 use Rattle.rules.specs.GoodWhen.{Lies, firstWord}
-use Rattle.rules.specs.Packets.{versionOf, typeOf, secondHeaderOf, apidOf, sequenceFlagsOf, sequenceCountOf, lengthFieldOf, unitAt, transactionAt, zeroBitOf, functionCodeOf, commandUnit, commandTransaction, decode, dataWords}
+use Rattle.rules.specs.Packets.{versionOf, typeOf, secondHeaderOf, apidOf, sequenceFlagsOf, sequenceCountOf, lengthFieldOf, unitAt, transactionAt, zeroBitOf, functionCodeOf, commandUnit, commandTransaction, decode, dataWords, nameIn}
 use Rattle.rules.specs.Results.{answerNumber, answerLength}
 use Rattle.rules.specs.Cases.{rangeOf, poolOf, bytesOf}
+use Rattle.rules.specs.Commands.{CommandArgs}
 use Rattle.rules.specs.Slots.{SlotArgs, slotCall}
+use Rattle.rules.specs.Demand3.{AskedIs}
 use Rattle.rules.specs.Ground.{writeCommand, readCommand, readPacket}
 use Rattle.rules.specs.Demand2.{TelemetryHeader, SlotDone}
-use Rattle.rules.specs.ReadBack.{CommandFits, AreWords, SlotFits, packetOf}
+use Rattle.rules.specs.ReadBack.{CommandFits, AreWords, letter, SlotFits, packetOf}
 use Rattle.rules.specs.declared.ActiveDump.{ActiveDump}
 use Rattle.rules.specs.declared.Command.{Command}
-use Rattle.rules.specs.declared.Command.the-variants.{Dump, Cancel, Load, PoolStatistics}
+use Rattle.rules.specs.declared.Command.the-variants.{Dump, Cancel, Load, PoolStatistics, SymbolValue, DumpSymbol}
 use Rattle.rules.specs.declared.Decoded.the-variants.{Unknown, Known}
 use Rattle.rules.specs.declared.DumpPacket.{DumpPacket}
 use Rattle.rules.specs.declared.Header.{Header}
@@ -59,10 +61,15 @@ pub record CommandFields (p : List ℕ) : Type 0 where
   pub cancel : byte p 6 % 128 ≡ 1 → decode p ≡ Known Cancel
   pub load : byte p 6 % 128 ≡ 4 → decode p ≡ Known (Load (requestAt p))
   pub statistics : byte p 6 % 128 ≡ 7 → decode p ≡ Known (PoolStatistics (two p 10))
-  pub other : byte p 6 % 128 ≢ 0 → byte p 6 % 128 ≢ 1 → byte p 6 % 128 ≢ 4 → byte p 6 % 128 ≢ 7 → decode p ≡ Unknown
+  pub value : byte p 6 % 128 ≡ 8 → decode p ≡ Known (SymbolValue (byte p 10))
+  pub by-name : byte p 6 % 128 ≡ 9 → decode p ≡ Known (DumpSymbol (record { name = byte p 10; offset = four p 60; size = two p 64 }))
+  pub other : byte p 6 % 128 ≢ 0 → byte p 6 % 128 ≢ 1 → byte p 6 % 128 ≢ 4 → byte p 6 % 128 ≢ 7 → byte p 6 % 128 ≢ 8 → byte p 6 % 128 ≢ 9
+      → decode p ≡ Unknown
   -- the eleven data words of a load
   pub words : length (dataWords p) ≡ 11
   pub word : (k : ℕ) → k < 11 → getD (dataWords p) k 0 ≡ four p (16 + 4 * k)
+  -- the name of a symbol
+  pub name : nameIn p ≡ take (byte p 10) (drop 12 p)
 
 -- COMMANDS, WRITTEN AND READ
 
@@ -71,6 +78,15 @@ codeIn (Dump q) = 0
 codeIn Cancel = 1
 codeIn (Load q) = 4
 codeIn (PoolStatistics i) = 7
+codeIn (SymbolValue n) = 8
+codeIn (DumpSymbol q) = 9
+
+-- a name field of so many bytes: name size, pad, and the name in 48 bytes; those beyond its size are 0
+pub record NameWritten (n : ℕ) (ws p : List ℕ) : Type 0 where
+  pub size : byte p 10 ≡ n
+  pub pad : byte p 11 ≡ 0
+  pub letters : (j : ℕ) → j < n → j < 48 → byte p (12 + j) ≡ letter ws j
+  pub rest : (j : ℕ) → n ≤ j → j < 48 → byte p (12 + j) ≡ 0
 
 -- the body after unit and transaction; a load's words beyond its size are 0
 abbrev pub Body : Command → List ℕ → List ℕ → Type 0
@@ -81,6 +97,8 @@ Body (Load q) ws p =
     × ((k : ℕ) → k < q .size → four p (16 + 4 * k) ≡ getD ws k 0)
     × ((k : ℕ) → q .size ≤ k → k < 11 → four p (16 + 4 * k) ≡ 0)
 Body (PoolStatistics i) ws p = two p 10 ≡ i
+Body (SymbolValue n) ws p = NameWritten n ws p
+Body (DumpSymbol q) ws p = NameWritten (q .name) ws p × (four p 60 ≡ q .offset) × (two p 64 ≡ q .size) × (two p 66 ≡ 0)
 
 -- what the writer wrote. 7748 is type 1, second-header flag 1 and APID 1604
 pub record CommandWritten (h : Header) (k : Command) (ws p : List ℕ) : Type 0 where
@@ -93,12 +111,17 @@ pub record CommandWritten (h : Header) (k : Command) (ws p : List ℕ) : Type 0 
   pub identity : two p 8 ≡ 4096 * h .unit + h .transaction
   pub body : Body k ws p
 
--- the data words beside a command that was read: those of a load, and else zeros
+-- the twelve words beside a command that was read: the eleven of a load and 0, those of a symbol's name, and else zeros
+abbrev pub NameBeside : List ℕ → List ℕ → Type 0
+NameBeside p ws = (length ws ≡ 12) × ((k : ℕ) → k < 12 → getD ws k 0 ≡ four p (12 + 4 * k))
+
 abbrev pub Beside : Command → List ℕ → List ℕ → Type 0
-Beside (Dump q) p ws = ws ≡ replicate 11 0
-Beside Cancel p ws = ws ≡ replicate 11 0
-Beside (Load q) p ws = (length ws ≡ 11) × ((k : ℕ) → k < 11 → getD ws k 0 ≡ four p (16 + 4 * k))
-Beside (PoolStatistics i) p ws = ws ≡ replicate 11 0
+Beside (Dump q) p ws = ws ≡ replicate 12 0
+Beside Cancel p ws = ws ≡ replicate 12 0
+Beside (Load q) p ws = (length ws ≡ 12) × ((k : ℕ) → k < 11 → getD ws k 0 ≡ four p (16 + 4 * k)) × (getD ws 11 0 ≡ 0)
+Beside (PoolStatistics i) p ws = ws ≡ replicate 12 0
+Beside (SymbolValue n) p ws = NameBeside p ws
+Beside (DumpSymbol q) p ws = NameBeside p ws
 
 -- what the command reader gave of a packet
 pub record CommandGiven (p : List ℕ) (f : Telecommand) (ws : List ℕ) : Type 0 where
@@ -133,6 +156,8 @@ pub record PacketGiven (p : List ℕ) (f : DumpPacket) (part : List ℕ) : Type 
   pub handed-back : part ≡ drop 28 p
 
 pub record PlainBytes : Type 0 where
+  -- what a command asks of the dump places
+  pub asked-is : (c : CommandArgs) → AskedIs c
   pub header-fields : (p : List ℕ) → AreBytes p → HeaderFields p
   pub command-fields : (p : List ℕ) → AreBytes p → CommandFields p
   pub command-written : (h : Header) (k : Command) (ws buffer : List ℕ) → CommandFits k → AreWords ws

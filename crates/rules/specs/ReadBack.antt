@@ -17,7 +17,7 @@ use Rattle.rules.specs.Slots.{SlotArgs, slotCall, nextWords}
 use Rattle.rules.specs.Demand2.{SlotDone}
 use Rattle.rules.specs.Ground.{writeCommand, readCommand, readPacket, packetNumber}
 use Rattle.rules.specs.declared.Command.{Command}
-use Rattle.rules.specs.declared.Command.the-variants.{Dump, Cancel, Load, PoolStatistics}
+use Rattle.rules.specs.declared.Command.the-variants.{Dump, Cancel, Load, PoolStatistics, SymbolValue, DumpSymbol}
 use Rattle.rules.specs.declared.DumpPacket.{DumpPacket}
 use Rattle.rules.specs.declared.Header.{Header}
 use Rattle.rules.specs.declared.PacketReading.the-variants.{Packet}
@@ -36,16 +36,33 @@ CommandFits (Dump q) = RequestFits q
 CommandFits Cancel = Unit {0}
 CommandFits (Load q) = RequestFits q
 CommandFits (PoolStatistics i) = i < 65536
+CommandFits (SymbolValue n) = n < 256
+CommandFits (DumpSymbol q) = (q .name < 256) × (q .offset < 4294967296) × (q .size < 65536)
 
 abbrev pub AreWords : List ℕ → Type 0
 AreWords ws = (i : ℕ) → getD ws i 0 < 4294967296
 
--- how many data words a command uses
-abbrev pub usedBy : Command → ℕ
-usedBy (Dump q) = 0
-usedBy Cancel = 0
-usedBy (Load q) = q .size
-usedBy (PoolStatistics i) = 0
+-- byte j of a name that is kept in words, four to a word, the highest first
+abbrev pub letter : List ℕ → ℕ → ℕ
+letter ws j = getD (wordBytes ws) j 0
+
+-- of the words beside a command, what it uses is the same in both: a load's words below its size, a name's bytes below its size
+abbrev pub UsedSame : Command → List ℕ → List ℕ → Type 0
+UsedSame (Dump q) us ws = Unit {0}
+UsedSame Cancel us ws = Unit {0}
+UsedSame (Load q) us ws = (i : ℕ) → i < q .size → getD us i 0 ≡ getD ws i 0
+UsedSame (PoolStatistics i) us ws = Unit {0}
+UsedSame (SymbolValue n) us ws = (j : ℕ) → j < n → letter us j ≡ letter ws j
+UsedSame (DumpSymbol q) us ws = (j : ℕ) → j < q .name → letter us j ≡ letter ws j
+
+-- and what it does not use is 0
+abbrev pub RestZero : Command → List ℕ → Type 0
+RestZero (Dump q) ws = Unit {0}
+RestZero Cancel ws = Unit {0}
+RestZero (Load q) ws = (i : ℕ) → q .size ≤ i → getD ws i 0 ≡ 0
+RestZero (PoolStatistics i) ws = Unit {0}
+RestZero (SymbolValue n) ws = (j : ℕ) → n ≤ j → letter ws j ≡ 0
+RestZero (DumpSymbol q) ws = (j : ℕ) → q .name ≤ j → letter ws j ≡ 0
 
 -- what the writer asks: room for the packet, and fields within their bounds
 pub record Writes (h : Header) (k : Command) (buffer : List ℕ) : Type 0 where
@@ -55,16 +72,16 @@ pub record Writes (h : Header) (k : Command) (buffer : List ℕ) : Type 0 where
   pub count : h .count ≤ 16383
   pub fields : FieldsAllowed k
 
--- what the writer wrote, read: the fields, and the used data words
+-- what the writer wrote, read: the fields, and the used words
 pub record WriteRead (h : Header) (k : Command) (ws p : List ℕ) : Type 0 where
   pub fields : readCommand p .reading ≡ Read (record { header = h; command = k })
-  pub words : (i : ℕ) → i < usedBy k → getD (readCommand p .words) i 0 ≡ getD ws i 0
+  pub words : UsedSame k (readCommand p .words) ws
 
--- what the reader read, written: the bytes, exactly if the unused data words are 0
+-- what the reader read, written: the bytes, exactly if the unused data words of a load, or bytes of a name field, are 0
 abbrev pub ReadWrite : Header → Command → List ℕ → List ℕ → Type 0
 ReadWrite h k p buffer =
     (writeCommand h k (readCommand p .words) buffer .buffer ≡ splice buffer 0 p)
-    ↔ ((i : ℕ) → usedBy k ≤ i → getD (readCommand p .words) i 0 ≡ 0)
+    ↔ RestZero k (readCommand p .words)
 
 -- DUMP PACKETS
 

@@ -99,6 +99,7 @@ served s places last packets =
       places = places;
       last = last;
       replies = s .replies;
+      values = s .values;
       packets = packets;
       accepted = s .accepted;
       refused = s .refused;

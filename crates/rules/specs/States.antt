@@ -43,7 +43,7 @@ entriesUsed rs n = take n rs ++ replicate (16 - n) noRegion
 abbrev pub freshState : List Region → ℕ → List Range → ℕ → State
 freshState rs n ps unit =
     record
-    { regions = rs; count = n; pools = ps; unit = unit; places = replicate 4 idlePlace; last = 3; replies = 0; packets = 0; accepted = 0; refused = 0 }
+    { regions = rs; count = n; pools = ps; unit = unit; places = replicate 4 idlePlace; last = 3; replies = 0; values = 0; packets = 0; accepted = 0; refused = 0 }
 
 -- the state that start-up gives with 17: zero regions, no pools, unit 0, the rest as if fresh
 abbrev pub noState : State
@@ -98,7 +98,7 @@ placesRules rs n ps = eqb (length ps) 4 && allBelow (placeRules rs n ps) 4
 -- the last place and the counts
 unfoldable pub countRules : State → Bool
 countRules s =
-    leb (s .last) 3 && leb (s .replies) 16383 && leb (s .packets) 16383 && leb (s .accepted) 65535 && leb (s .refused) 65535
+    leb (s .last) 3 && leb (s .replies) 16383 && leb (s .values) 16383 && leb (s .packets) 16383 && leb (s .accepted) 65535 && leb (s .refused) 65535
 
 -- the paper's "good" state
 unfoldable pub goodState : State → Bool

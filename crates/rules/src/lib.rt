@@ -1,6 +1,7 @@
 // The types of the memory service, and paper 01's examples and demands as theorems over the definitions in specs/.
 ghost use Rattle.rules.specs.Examples.{Examples};
 ghost use Rattle.rules.specs.FurtherExamples.{FurtherExamples};
+ghost use Rattle.rules.specs.SymbolExamples.{SymbolExamples};
 ghost use Rattle.rules.specs.Demand1.{Demand1};
 ghost use Rattle.rules.specs.Demand2.{Demand2};
 ghost use Rattle.rules.specs.Demand3.{Demand3};
@@ -46,7 +47,7 @@ pub struct Place {
 }
 
 // The state of the service, handed in and returned by value. Of the sixteen regions the first `count` are in use.
-// `last` is the place served last; `replies` and `packets` are the packet counts of APID 785 and 788.
+// `last` is the place served last; `replies`, `values` and `packets` are the packet counts of APID 785, 786 and 788.
 pub struct State {
     pub regions: [Region; 16],
     pub count: usize,
@@ -55,6 +56,7 @@ pub struct State {
     pub places: [Place; 4],
     pub last: u8,
     pub replies: u16,
+    pub values: u16,
     pub packets: u16,
     pub accepted: u16,
     pub refused: u16,
@@ -73,12 +75,23 @@ pub struct Request {
     pub address: Address,
 }
 
-// The commands. A load's data words stand beside it, since an enum holds no array.
+// What a dump by name asks for: how many bytes its symbol's name has, the offset in bytes from the symbol's value (two's complement), and
+// the size in words.
+pub struct SymbolRequest {
+    pub name: u8,
+    pub offset: u32,
+    pub size: u16,
+}
+
+// The commands. Twelve words stand beside a command, since an enum holds no array: the eleven data words of a load, or the 48 bytes of a
+// symbol's name, of which the command holds the size.
 pub enum Command {
     Dump(Request),
     Cancel,
     Load(Request),
     PoolStatistics(u16),
+    SymbolValue(u8),
+    DumpSymbol(SymbolRequest),
 }
 
 // What a function code names.
@@ -87,7 +100,18 @@ pub enum Decoded {
     Known(Command),
 }
 
-// Why a call is refused: one variant for each number from 1 to 17, in that order.
+// What a command asks the service to do, once its symbol is resolved: a dump by name is the dump of a range, and the value of a symbol is a
+// number to tell.
+pub enum Task {
+    Nothing,
+    DumpRange(Range),
+    CancelDump,
+    LoadRange(Range),
+    CountPool(u16),
+    TellValue(u32),
+}
+
+// Why a call is refused: one variant for each number from 1 to 18, in that order.
 pub enum Refusal {
     BadState,
     ImageLength,
@@ -106,6 +130,7 @@ pub enum Refusal {
     PoolDamaged,
     NothingToSend,
     BadTable,
+    UnknownSymbol,
 }
 
 // The outcome of a call's tests.
@@ -137,7 +162,7 @@ pub struct Returned {
     pub state: State,
 }
 
-// A command packet's fields. The eleven data words of a load stand beside it.
+// A command packet's fields. The words of a load or of a name stand beside it.
 pub struct Telecommand {
     pub header: Header,
     pub command: Command,
@@ -149,10 +174,10 @@ pub enum Reading {
     Read(Telecommand),
 }
 
-// What the command reader gives: its answer, and the eleven data words of a load beside it, or zeros.
+// What the command reader gives: its answer, and twelve words beside it: a load's eleven and 0, a symbol's name, or zeros.
 pub struct CommandRead {
     pub reading: Reading,
-    pub words: [u32; 11],
+    pub words: [u32; 12],
 }
 
 // A dump packet's fields: what was requested, the address of this packet's data, and how many words it has.
@@ -180,6 +205,11 @@ pub fn checked_examples()
 // Cases that E1 to E12 leave out.
 pub fn further_cases()
     ensures { λ r. ⌜ FurtherExamples ⌝ }
+{}
+
+// Codes 8 and 9: symbols, their values, and dumps by name.
+pub fn symbol_examples()
+    ensures { λ r. ⌜ SymbolExamples ⌝ }
 {}
 
 // Safe, exact refusals.

@@ -79,6 +79,7 @@ fn count_rules(s: State) -> bool
 {
     (s.last <= 3)
         & (s.replies <= 16383)
+        & (s.values <= 16383)
         & (s.packets <= 16383)
         & (s.accepted <= 65535)
         & (s.refused <= 65535)
@@ -138,6 +139,7 @@ fn fresh_state(rs: [Region; 16], n: usize, ps: [Range; 2], unit: u8) -> State
         places: [idle; 4],
         last: 3,
         replies: 0,
+        values: 0,
         packets: 0,
         accepted: 0,
         refused: 0,

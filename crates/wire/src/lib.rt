@@ -1,4 +1,4 @@
-// Numbers in bytes, big-endian, and the exclusive or. Every public function is total: a byte past the end reads as 0, and words that do not all fit are not written.
+// Numbers in bytes, big-endian, and the exclusive or. Every public function but `read16` and `read32` is total: a byte past the end reads as 0, and words that do not all fit are not written.
 ghost use mathlib.Core.Path.{_≡_};
 ghost use mathlib.Core.List.{reverse};
 ghost use Prim.Native.Nat.{_+_, _*_, _≤_, _<_};
@@ -27,21 +27,11 @@ pub fn byte_at(p: &[u8], at: usize) -> u8
     if at < p.len() { p[at] } else { 0 }
 }
 
-// The number in two bytes from index `at` on.
-pub fn get16(p: &[u8], at: u16) -> u16
-    ensures { λ r. ⌜ r ≡ beAt 2 (now (p .entry)) at ⌝ }
+// The two bytes of a number in the other order.
+fn swapped16(x: u16) -> u16
+    ensures { λ r. ⌜ reverse (be 2 r) ≡ be 2 x ⌝ }
 {
-    let i = at as usize;
-    wide16(byte_at(p, i)) * 256 + wide16(byte_at(p, i + 1))
-}
-
-// The number in four bytes from index `at` on.
-pub fn get32(p: &[u8], at: u16) -> u32
-    ensures { λ r. ⌜ r ≡ beAt 4 (now (p .entry)) at ⌝ }
-{
-    let i = at as usize;
-    let high = wide32(byte_at(p, i)) * 256 + wide32(byte_at(p, i + 1));
-    (high * 256 + wide32(byte_at(p, i + 2))) * 256 + wide32(byte_at(p, i + 3))
+    x % 256 * 256 + x / 256
 }
 
 // The bytes of a word in the other order.
@@ -52,6 +42,50 @@ fn swapped(x: u32) -> u32
         + x / 256 % 256 * 65536
         + x / 256 / 256 % 256 * 256
         + x / 256 / 256 / 256 % 256
+}
+
+// The number in two bytes that are there. They are read lowest first and turned round: of that the compiler makes one load and one swap.
+pub fn read16(p: &[u8], at: usize) -> u16
+    requires { ⌜ at + 2 ≤ length (now p) ⌝ }
+    ensures { λ r. ⌜ r ≡ beAt 2 (now (p .entry)) at ⌝ }
+{
+    swapped16(wide16(p[at]) + wide16(p[at + 1]) * 256)
+}
+
+// The number in four bytes that are there.
+pub fn read32(p: &[u8], at: usize) -> u32
+    requires { ⌜ at + 4 ≤ length (now p) ⌝ }
+    ensures { λ r. ⌜ r ≡ beAt 4 (now (p .entry)) at ⌝ }
+{
+    swapped(
+        wide32(p[at])
+            + wide32(p[at + 1]) * 256
+            + wide32(p[at + 2]) * 65536
+            + wide32(p[at + 3]) * 16777216,
+    )
+}
+
+// The number in two bytes from index `at` on.
+pub fn get16(p: &[u8], at: u16) -> u16
+    ensures { λ r. ⌜ r ≡ beAt 2 (now (p .entry)) at ⌝ }
+{
+    let i = at as usize;
+    if i + 2 <= p.len() {
+        return read16(p, i);
+    }
+    wide16(byte_at(p, i)) * 256 + wide16(byte_at(p, i + 1))
+}
+
+// The number in four bytes from index `at` on.
+pub fn get32(p: &[u8], at: u16) -> u32
+    ensures { λ r. ⌜ r ≡ beAt 4 (now (p .entry)) at ⌝ }
+{
+    let i = at as usize;
+    if i + 4 <= p.len() {
+        return read32(p, i);
+    }
+    let high = wide32(byte_at(p, i)) * 256 + wide32(byte_at(p, i + 1));
+    (high * 256 + wide32(byte_at(p, i + 2))) * 256 + wide32(byte_at(p, i + 3))
 }
 
 // One word. It is turned round first and then stored lowest byte first: of that the compiler makes one swap and one store.

@@ -1,5 +1,5 @@
 //! The account of demand 3, as the last paragraph of "Telemetry slots" words it, kept over one list of calls from a fresh start. It sees only
-//! what goes in and what comes out: commands, numbers, packets, and the image lent to each slot.
+//! what goes in and what comes out: commands and the symbol table lent to each, numbers, packets, and the image lent to each slot.
 
 use second::model::Setup;
 
@@ -22,6 +22,8 @@ struct Open {
 pub struct Sums {
     pub lists: u64,
     pub accepted: u64,
+    /// Of those, by name.
+    pub by_name: u64,
     pub finished: u64,
     pub cancelled: u64,
     pub packets: u64,
@@ -38,6 +40,21 @@ pub struct Account {
 
 fn word(bytes: &[u8], at: usize) -> u32 {
     u32::from_be_bytes([bytes[at], bytes[at + 1], bytes[at + 2], bytes[at + 3]])
+}
+
+/// The address that a packet of code 9 asks for by the table lent to its call: the record with its name, through aliases to a value, and its offset.
+fn address_by_name(packet: &[u8], symbols: &[u8]) -> Option<u32> {
+    let length = packet[10] as usize;
+    let mut record = symbols.chunks_exact(56).find(|record| record[1] == packet[10] && record.get(4..4 + length) == packet.get(12..12 + length))?;
+    for _ in 0..256 {
+        let number = word(record, 52);
+        if record[0] == 0 {
+            return u32::try_from(i64::from(number) + i64::from(word(packet, 60) as i32)).ok();
+        }
+        let at = 56 * number as usize;
+        record = symbols.get(at..at + 56)?;
+    }
+    None
 }
 
 impl Account {
@@ -60,17 +77,24 @@ impl Account {
         None
     }
 
-    /// A dump or cancel command (by its packet) was answered 0.
-    pub fn command_done(&mut self, packet: &[u8]) -> Result<(), String> {
+    /// A dump or cancel command (by its packet and the symbol table lent with it) was answered 0.
+    pub fn command_done(&mut self, packet: &[u8], symbols: &[u8]) -> Result<(), String> {
         let transaction = u32::from(packet[8] & 15) << 8 | u32::from(packet[9]);
         match packet[6] {
-            0 => {
+            0 | 9 => {
                 // The packets of an earlier dump with this number end here.
                 self.close(Some(transaction))?;
-                let words = u32::from(packet[10]) << 8 | u32::from(packet[11]);
+                let at = if packet[6] == 9 { 64 } else { 10 };
+                let words = u32::from(packet[at]) << 8 | u32::from(packet[at + 1]);
+                let start = if packet[6] == 9 {
+                    self.sums.by_name += 1;
+                    address_by_name(packet, symbols).ok_or(format!("dump {transaction:03X} was accepted by a name that resolves to no address"))?
+                } else {
+                    word(packet, 12)
+                };
                 self.open.push(Open {
                     transaction,
-                    start: word(packet, 12),
+                    start,
                     words,
                     packets_due: words.div_ceil(1_016),
                     packets: 0,

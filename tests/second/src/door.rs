@@ -7,9 +7,9 @@
 
 use crate::model::*;
 
-pub const STATE_WORDS: usize = 79;
+pub const STATE_WORDS: usize = 80;
 pub const TABLE_WORDS: usize = 54;
-pub const COMMAND_WORDS: usize = 18;
+pub const COMMAND_WORDS: usize = 21;
 pub const PACKET_WORDS: usize = 8;
 
 /// `struct lg_answer`.
@@ -82,6 +82,7 @@ pub fn pack_state(state: &State) -> [u32; STATE_WORDS] {
     block[76] = state.count_788;
     block[77] = state.accepted;
     block[78] = state.refused;
+    block[79] = state.count_786;
     block
 }
 
@@ -93,7 +94,7 @@ pub fn unpack_state(block: &[u32]) -> Option<State> {
     if block[53] > 255 || block[74] > 255 {
         return None;
     }
-    if block[75..79].iter().any(|&count| count > 65_535) {
+    if block[75..80].iter().any(|&count| count > 65_535) {
         return None;
     }
     let mut places = [DumpPlace::Idle; 4];
@@ -110,6 +111,7 @@ pub fn unpack_state(block: &[u32]) -> Option<State> {
         places,
         last: block[74],
         count_785: block[75],
+        count_786: block[79],
         count_788: block[76],
         accepted: block[77],
         refused: block[78],
@@ -161,11 +163,33 @@ pub fn pack_fields(fields: &Fields) -> [u32; COMMAND_WORDS] {
             block[7..18].copy_from_slice(data);
         }
         Command::PoolStatistics { pool } => block[6] = *pool,
+        Command::SymbolValue { name } => pack_name(&mut block, name),
+        Command::DumpByName { name, offset, size } => {
+            block[4] = *size;
+            pack_name(&mut block, name);
+            block[20] = *offset as u32;
+        }
     }
     block
 }
 
-/// None: another code than 0, 1, 4 or 7. The length is right.
+/// Words 7 to 18: "the 48 bytes that hold a symbol's name, four to a word, the first in the top bits"; word 19: "how many of them the name has".
+fn pack_name(block: &mut [u32; COMMAND_WORDS], name: &Name) {
+    for (word, four) in block[7..19].iter_mut().zip(name.bytes.chunks(4)) {
+        *word = u32::from_be_bytes([four[0], four[1], four[2], four[3]]);
+    }
+    block[19] = name.size;
+}
+
+fn unpack_name(block: &[u32]) -> Name {
+    let mut bytes = [0; NAME_BYTES];
+    for (four, word) in bytes.chunks_mut(4).zip(&block[7..19]) {
+        four.copy_from_slice(&word.to_be_bytes());
+    }
+    Name { size: block[19], bytes }
+}
+
+/// None: another code than 0, 1, 4, 7, 8 or 9. The length is right.
 fn unpack_fields(block: &[u32]) -> Option<Fields> {
     let command = match block[0] {
         0 => Command::Dump { size: block[4], address: Address(block[5]) },
@@ -176,6 +200,8 @@ fn unpack_fields(block: &[u32]) -> Option<Fields> {
             Command::Load { size: block[4], address: Address(block[5]), data }
         }
         7 => Command::PoolStatistics { pool: block[6] },
+        8 => Command::SymbolValue { name: unpack_name(block) },
+        9 => Command::DumpByName { name: unpack_name(block), offset: block[20] as i32, size: block[4] },
         _ => return None,
     };
     Some(Fields { sequence: block[1], unit: block[2], transaction: block[3], command })
@@ -213,12 +239,19 @@ pub mod by_model {
         number
     }
 
-    pub fn command(state: &mut [u32], packet: &[u8], image: &mut [u32], reply: &mut [u8], reply_length: &mut u32) -> u32 {
+    pub fn command(
+        state: &mut [u32],
+        packet: &[u8],
+        symbols: &[u8],
+        image: &mut [u32],
+        reply: &mut [u8],
+        reply_length: &mut u32,
+    ) -> u32 {
         *reply_length = 0;
         match unpack_state(state) {
             None => 1,
             Some(before) => {
-                let answer = command_call(&before, packet, image, reply);
+                let answer = command_call(&before, packet, symbols, image, reply);
                 state.copy_from_slice(&pack_state(&answer.state));
                 *reply_length = answer.reply_length;
                 answer.number
@@ -226,11 +259,13 @@ pub mod by_model {
         }
     }
 
+    #[allow(clippy::too_many_arguments)]
     pub fn commands(
         state: &mut [u32],
         bytes: &[u8],
         starts: &[u32],
         lengths: &[u32],
+        symbols: &[u8],
         image: &mut [u32],
         replies: &mut [u8],
         answers: &mut [Answer],
@@ -241,7 +276,7 @@ pub mod by_model {
         match unpack_state(state) {
             None => answers[..starts.len()].fill(Answer { number: 1, length: 0 }),
             Some(before) => {
-                let batch = batch_call(&before, bytes, starts, lengths, image, replies);
+                let batch = batch_call(&before, bytes, starts, lengths, symbols, image, replies);
                 state.copy_from_slice(&pack_state(&batch.state));
                 for (record, item) in answers.iter_mut().zip(&batch.answers) {
                     *record = Answer { number: item.number, length: item.reply_length };
@@ -328,6 +363,8 @@ mod c {
             state_words: usize,
             packet: *const u8,
             packet_bytes: usize,
+            symbols: *const u8,
+            symbols_bytes: usize,
             image: *mut u32,
             image_words: usize,
             reply: *mut u8,
@@ -343,6 +380,8 @@ mod c {
             starts_count: usize,
             lengths: *const u32,
             lengths_count: usize,
+            symbols: *const u8,
+            symbols_bytes: usize,
             image: *mut u32,
             image_words: usize,
             replies: *mut u8,
@@ -416,13 +455,22 @@ mod wrappers {
         unsafe { c::lg_start_up(lent(table), table.len(), lent_mut(state), state.len()) }
     }
 
-    pub fn command(state: &mut [u32], packet: &[u8], image: &mut [u32], reply: &mut [u8], reply_length: &mut u32) -> u32 {
+    pub fn command(
+        state: &mut [u32],
+        packet: &[u8],
+        symbols: &[u8],
+        image: &mut [u32],
+        reply: &mut [u8],
+        reply_length: &mut u32,
+    ) -> u32 {
         unsafe {
             c::lg_command(
                 lent_mut(state),
                 state.len(),
                 lent(packet),
                 packet.len(),
+                lent(symbols),
+                symbols.len(),
                 lent_mut(image),
                 image.len(),
                 lent_mut(reply),
@@ -432,11 +480,13 @@ mod wrappers {
         }
     }
 
+    #[allow(clippy::too_many_arguments)]
     pub fn commands(
         state: &mut [u32],
         bytes: &[u8],
         starts: &[u32],
         lengths: &[u32],
+        symbols: &[u8],
         image: &mut [u32],
         replies: &mut [u8],
         answers: &mut [Answer],
@@ -451,6 +501,8 @@ mod wrappers {
                 starts.len(),
                 lent(lengths),
                 lengths.len(),
+                lent(symbols),
+                symbols.len(),
                 lent_mut(image),
                 image.len(),
                 lent_mut(replies),

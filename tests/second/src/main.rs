@@ -9,7 +9,7 @@ mod rng;
 use account::{Account, Sums};
 use make::*;
 use rng::Rng;
-use second::door::{self, by_model, Answer, COMMAND_WORDS};
+use second::door::{self, by_model, Answer, COMMAND_WORDS, STATE_WORDS};
 use second::model::{command_call, DumpPlace, Setup, State};
 use std::process::exit;
 
@@ -31,6 +31,7 @@ struct Outcome {
     starts: Vec<u32>,
     lengths: Vec<u32>,
     answers: Vec<Answer>,
+    symbols: Vec<u8>,
     image: Vec<u32>,
     buffer: Vec<u8>,
     /// The name of a lent part next to which something was written.
@@ -47,16 +48,24 @@ fn ask_model(call: &Call) -> Outcome {
         starts: call.starts.clone(),
         lengths: call.lengths.clone(),
         answers: call.answers.clone(),
+        symbols: call.symbols.clone(),
         image: call.image.clone(),
         buffer: call.buffer.clone(),
         overrun: "",
     };
     o.number = match call.kind {
         Kind::StartUp => by_model::start_up(&o.fixed, &mut o.words),
-        Kind::Command => by_model::command(&mut o.words, &o.packet, &mut o.image, &mut o.buffer, &mut o.length),
-        Kind::Batch => {
-            by_model::commands(&mut o.words, &o.packet, &o.starts, &o.lengths, &mut o.image, &mut o.buffer, &mut o.answers)
-        }
+        Kind::Command => by_model::command(&mut o.words, &o.packet, &o.symbols, &mut o.image, &mut o.buffer, &mut o.length),
+        Kind::Batch => by_model::commands(
+            &mut o.words,
+            &o.packet,
+            &o.starts,
+            &o.lengths,
+            &o.symbols,
+            &mut o.image,
+            &mut o.buffer,
+            &mut o.answers,
+        ),
         Kind::Slot => by_model::slot(&mut o.words, call.tick, &o.image, &mut o.buffer, &mut o.length),
         Kind::WriteCommand => by_model::write_command(&o.fixed, &mut o.buffer, &mut o.length),
         Kind::ReadCommand => by_model::read_command(&o.packet, &mut o.words),
@@ -107,17 +116,19 @@ fn ask_door(call: &Call) -> Outcome {
     let mut starts = Guarded::new(&call.starts, 0xC0DE_D00D);
     let mut lengths = Guarded::new(&call.lengths, 0xC0DE_D00D);
     let mut answers = Guarded::new(&call.answers, Answer { number: 0xC0DE_D00D, length: 0xC0DE_D00D });
+    let mut symbols = Guarded::new(&call.symbols, 0xD7);
     let mut image = Guarded::new(&call.image, 0xC0DE_D00D);
     let mut buffer = Guarded::new(&call.buffer, 0xD7);
     let mut length = call.length;
     let number = match call.kind {
         Kind::StartUp => door::start_up(fixed.part(), words.part()),
-        Kind::Command => door::command(words.part(), packet.part(), image.part(), buffer.part(), &mut length),
+        Kind::Command => door::command(words.part(), packet.part(), symbols.part(), image.part(), buffer.part(), &mut length),
         Kind::Batch => door::commands(
             words.part(),
             packet.part(),
             starts.part(),
             lengths.part(),
+            symbols.part(),
             image.part(),
             buffer.part(),
             answers.part(),
@@ -135,6 +146,7 @@ fn ask_door(call: &Call) -> Outcome {
         ("starts", starts.broken()),
         ("lengths", lengths.broken()),
         ("answer records", answers.broken()),
+        ("symbols", symbols.broken()),
         ("image", image.broken()),
         ("buffer", buffer.broken()),
     ] {
@@ -151,6 +163,7 @@ fn ask_door(call: &Call) -> Outcome {
         starts: starts.take(),
         lengths: lengths.take(),
         answers: answers.take(),
+        symbols: symbols.take(),
         image: image.take(),
         buffer: buffer.take(),
         overrun,
@@ -191,6 +204,7 @@ fn difference(model: &Outcome, door: &Outcome) -> Option<String> {
         .or_else(|| first_difference("packet", &model.packet, &door.packet))
         .or_else(|| first_difference("starts", &model.starts, &door.starts))
         .or_else(|| first_difference("lengths", &model.lengths, &door.lengths))
+        .or_else(|| first_difference("symbols", &model.symbols, &door.symbols))
 }
 
 /// The packet of item i of a batch; empty if it leaves the buffer.
@@ -212,7 +226,8 @@ fn one_by_one(call: &Call, batch: &Outcome) -> Option<String> {
     let mut replies = call.buffer.clone();
     for i in 0..call.starts.len() {
         let mut length = 99;
-        let number = door::command(&mut words, item_of(call, i), &mut image, &mut replies[32 * i..32 * i + 32], &mut length);
+        let reply = &mut replies[32 * i..32 * i + 32];
+        let number = door::command(&mut words, item_of(call, i), &call.symbols, &mut image, reply, &mut length);
         if (Answer { number, length }) != batch.answers[i] {
             return Some(format!("item {i}: alone {number} and length {length}, in the batch {:?}", batch.answers[i]));
         }
@@ -222,7 +237,8 @@ fn one_by_one(call: &Call, batch: &Outcome) -> Option<String> {
 }
 
 // ------------------------------------------------------------------------------------------------------------------------------------
-// The data words of a load beyond its size, as the command reader gives them: the paper leaves them open
+// The data words of a load beyond its size and the bytes of a name field beyond its name, as the command reader gives them: the paper leaves them
+// open, and says that they go alike
 // ------------------------------------------------------------------------------------------------------------------------------------
 
 #[derive(Clone, Copy, PartialEq, Debug)]
@@ -233,23 +249,32 @@ enum Unused {
     Sent,
 }
 
-/// Puts the library's reading of the unused words into the model's outcome: the first call that shows it settles it for all later calls.
+/// Puts the library's reading of the unused words and bytes into the model's outcome: the first call that shows it settles it for all later calls.
 fn settle_unused(reading: &mut Option<Unused>, call: &Call, model: &mut Outcome, door: &Outcome) {
-    if call.kind != Kind::ReadCommand || model.number != 0 || model.words.len() != COMMAND_WORDS || model.words[0] != 4 {
+    if call.kind != Kind::ReadCommand || model.number != 0 || model.words.len() != COMMAND_WORDS {
         return;
     }
-    for k in model.words[4] as usize..11 {
-        let at = 16 + 4 * k;
-        let sent = u32::from_be_bytes([call.packet[at], call.packet[at + 1], call.packet[at + 2], call.packet[at + 3]]);
-        if reading.is_none() && sent != 0 && door.words.len() == COMMAND_WORDS {
-            if door.words[7 + k] == 0 {
+    // Where the words are in the packet, how many there are, and how many bytes of them are used.
+    let (from, words, used) = match model.words[0] {
+        4 => (16, 11, 4 * model.words[4] as usize),
+        8 | 9 => (12, 12, model.words[19] as usize),
+        _ => return,
+    };
+    for k in used / 4..words {
+        let at = from + 4 * k;
+        let mut sent = [call.packet[at], call.packet[at + 1], call.packet[at + 2], call.packet[at + 3]];
+        let whole = u32::from_be_bytes(sent);
+        sent[..used.saturating_sub(4 * k).min(4)].fill(0);
+        let unused = u32::from_be_bytes(sent);
+        if reading.is_none() && unused != 0 && door.words.len() == COMMAND_WORDS {
+            if door.words[7 + k] == whole - unused {
                 *reading = Some(Unused::Zero);
-            } else if door.words[7 + k] == sent {
+            } else if door.words[7 + k] == whole {
                 *reading = Some(Unused::Sent);
             }
         }
         if *reading == Some(Unused::Sent) {
-            model.words[7 + k] = sent;
+            model.words[7 + k] = whole;
         }
     }
 }
@@ -258,16 +283,25 @@ fn settle_unused(reading: &mut Option<Unused>, call: &Call, model: &mut Outcome,
 // The run
 // ------------------------------------------------------------------------------------------------------------------------------------
 
+/// The numbers are 0 to 18.
+const NUMBERS: usize = 19;
+const CODES: [(u8, &str); 6] =
+    [(0, "dump"), (1, "cancel"), (4, "load"), (7, "pool statistics"), (8, "value of a symbol"), (9, "dump by name")];
+
 struct Run {
     seed: u64,
     calls: u64,
     unused: Option<Unused>,
     /// [kind][number]
-    table: [[u64; 18]; KINDS.len()],
+    table: [[u64; NUMBERS]; KINDS.len()],
     /// Items of batches by number.
-    items: [u64; 18],
-    /// Commands answered 0 by function code, items of batches included.
-    done: [u64; 4],
+    items: [u64; NUMBERS],
+    /// Commands of codes 8 and 9 that came to the test of the symbol table, by number; items of batches included here and below.
+    by_name: [[u64; NUMBERS]; 2],
+    /// The same, by what the table is.
+    tables: [u64; TABLES.len()],
+    /// Commands answered 0 by function code.
+    done: [u64; CODES.len()],
     sums: Sums,
 }
 
@@ -303,6 +337,7 @@ fn print_call(call: &Call) {
         println!("  answer records, {}, as words:{}", call.answers.len(), hex_words(&record_words(&call.answers)));
     }
     println!("  tick {:08X}, length variable before {:08X}", call.tick, call.length);
+    println!("  symbols, {} bytes ({}):{}", call.symbols.len(), TABLES[call.table], hex_bytes(&call.symbols));
     println!("  image, {} words:{}", call.image.len(), hex_words(shown(&call.image)));
     println!("  buffer, {} bytes:{}", call.buffer.len(), hex_bytes(shown(&call.buffer)));
 }
@@ -339,7 +374,17 @@ fn print_changes(name: &str, before: &[u32], after: &[u32]) {
 
 impl Run {
     fn new(seed: u64, unused: Option<Unused>) -> Run {
-        Run { seed, calls: 0, unused, table: [[0; 18]; KINDS.len()], items: [0; 18], done: [0; 4], sums: Sums::default() }
+        Run {
+            seed,
+            calls: 0,
+            unused,
+            table: [[0; NUMBERS]; KINDS.len()],
+            items: [0; NUMBERS],
+            by_name: [[0; NUMBERS]; 2],
+            tables: [0; TABLES.len()],
+            done: [0; CODES.len()],
+            sums: Sums::default(),
+        }
     }
 
     /// One call on both sides. Any difference ends the program.
@@ -368,24 +413,31 @@ impl Run {
             exit(1);
         }
         let kind = KINDS.iter().position(|&kind| kind == call.kind).unwrap_or(0);
-        self.table[kind][door.number.min(17) as usize] += 1;
-        if call.kind == Kind::Command && door.number == 0 {
-            self.count_done(&call.packet);
+        self.table[kind][door.number.min(18) as usize] += 1;
+        if call.kind == Kind::Command {
+            self.count_command(&call.packet, call.table, door.number);
         }
         if call.kind == Kind::Batch && door.number == 0 {
             for i in 0..call.starts.len() {
-                self.items[door.answers[i].number.min(17) as usize] += 1;
-                if door.answers[i].number == 0 {
-                    self.count_done(item_of(call, i));
-                }
+                self.items[door.answers[i].number.min(18) as usize] += 1;
+                self.count_command(item_of(call, i), call.table, door.answers[i].number);
             }
         }
         door
     }
 
-    fn count_done(&mut self, packet: &[u8]) {
-        let code = [0, 1, 4, 7].iter().position(|&code| code == packet[6]).unwrap_or(0);
-        self.done[code] += 1;
+    fn count_command(&mut self, packet: &[u8], table: usize, number: u32) {
+        if (1..=8).contains(&number) {
+            return;
+        }
+        let code = packet[6];
+        if number == 0 {
+            self.done[CODES.iter().position(|known| known.0 == code).unwrap_or(0)] += 1;
+        }
+        if code == 8 || code == 9 {
+            self.by_name[code as usize - 8][number.min(18) as usize] += 1;
+            self.tables[table] += 1;
+        }
     }
 
     /// One call by itself, of the kind and aim that the turn says; and what follows from it.
@@ -397,7 +449,7 @@ impl Run {
                 self.call(&call);
             }
             2..=6 => {
-                let call = aimed_command(rng, (5 * aim + part - 2) as u32 % 16);
+                let call = aimed_command(rng, COMMAND_NUMBERS[(5 * aim + part - 2) as usize % COMMAND_NUMBERS.len()]);
                 self.call(&call);
             }
             7..=10 => {
@@ -469,7 +521,7 @@ impl Run {
         exit(1);
     }
 
-    /// "Writing and reading gives the fields (used data words only)."
+    /// "Writing and reading gives the fields (used data words only)"; of a name, the used bytes only.
     fn read_back(&mut self, rng: &mut Rng, written: &Call, outcome: &Outcome) {
         let mut read = Call::new(Kind::ReadCommand, rng);
         read.packet = outcome.buffer[..outcome.length as usize].to_vec();
@@ -487,6 +539,18 @@ impl Run {
                 due[7..7 + used].copy_from_slice(&f[7..7 + used]);
             }
             7 => due[6] = f[6],
+            8 | 9 => {
+                let used = f[19] as usize;
+                let bytes: Vec<u8> = f[7..19].iter().flat_map(|word| word.to_be_bytes()).collect();
+                for (k, byte) in bytes[..used].iter().enumerate() {
+                    due[7 + k / 4] |= u32::from(*byte) << (24 - 8 * (k % 4));
+                }
+                due[19] = f[19];
+                if f[0] == 9 {
+                    due[4] = f[4];
+                    due[20] = f[20];
+                }
+            }
             _ => {}
         }
         if back.words != due {
@@ -494,17 +558,22 @@ impl Run {
         }
     }
 
-    /// "Reading and writing gives the bytes, for a load only if its unused words are 0."
+    /// "Reading and writing gives the bytes, for a load only if its unused words are 0"; for a name, if its unused bytes are.
     fn write_back(&mut self, rng: &mut Rng, read: &Call, outcome: &Outcome) {
         let mut write = Call::new(Kind::WriteCommand, rng);
         write.fixed = outcome.words.clone();
-        write.buffer = rng.bytes(60);
+        write.buffer = rng.bytes(68);
         write.expected = Some(0);
         let back = self.call(&write);
         let mut due = read.packet.clone();
         if due[6] == 4 {
             let used = 16 + 4 * outcome.words[4] as usize;
             due[used..].fill(0);
+            mend_check(&mut due);
+        }
+        if due[6] == 8 || due[6] == 9 {
+            let used = 12 + due[10] as usize;
+            due[used..60].fill(0);
             mend_check(&mut due);
         }
         if back.buffer[..back.length as usize] != due[..] {
@@ -518,17 +587,22 @@ impl Run {
         let setup = list_setup(rng, big);
         let mut call = Call::new(Kind::StartUp, rng);
         call.fixed = door::pack_setup(&setup).to_vec();
-        call.words = rng.words(79);
+        call.words = rng.words(STATE_WORDS);
         call.expected = Some(0);
         let started = self.call(&call);
         let mut block = started.words;
         let mut image = rng.words(sum_of_sizes(&setup));
         let mut account = Account::new(&setup);
+        let mut symbols = Symbols::good(rng, &setup);
         let mut mood = 0;
         let mut done = 1;
         while done < length {
             if rng.one_in(60) {
                 mood = rng.below(4);
+            }
+            // Another table now and then: names go, come, and stand for other addresses.
+            if rng.one_in(80) {
+                symbols = Symbols::good(rng, &setup);
             }
             // Someone else changes words of the memory now and then.
             if rng.one_in(2) {
@@ -545,14 +619,20 @@ impl Run {
             let mut call = if is_slot {
                 list_slot(rng)
             } else if rng.one_in(8) {
-                list_batch(rng, &state, &setup, &mut image, mood, big.then_some(done))
+                list_batch(rng, &state, &setup, &symbols, &mut image, mood, big.then_some(done))
             } else {
-                list_command(rng, &state, &setup, &mut image, mood)
+                list_command(rng, &state, &setup, &symbols, &mut image, mood)
             };
             if big && call.kind == Kind::Command {
-                long_dumps(rng, &mut call, &state, &setup, done);
+                long_dumps(rng, &mut call, &state, &setup, &symbols, done);
             }
-            // What is lent wrongly: the image one in 25, the buffer one in 25.
+            if !is_slot {
+                (call.symbols, call.table) = (symbols.bytes(), symbols.kind());
+            }
+            // What is lent wrongly: the symbols one in 25, the image one in 25, the buffer one in 25.
+            if !is_slot && rng.one_in(25) {
+                (call.symbols, call.table) = symbols.broken(rng);
+            }
             call.image = std::mem::take(&mut image);
             let whole = call.image.len();
             let kept = if rng.one_in(25) {
@@ -591,7 +671,7 @@ impl Run {
                     if let Some(fault) = fault.as_deref_mut() {
                         fault.command(packet, &call.image);
                     }
-                    account.command_done(packet)?;
+                    account.command_done(packet, &call.symbols)?;
                 }
             }
             block = outcome.words;
@@ -604,6 +684,7 @@ impl Run {
         let s = &mut self.sums;
         s.lists += 1;
         s.accepted += account.sums.accepted;
+        s.by_name += account.sums.by_name;
         s.finished += account.sums.finished;
         s.cancelled += account.sums.cancelled;
         s.packets += account.sums.packets;
@@ -614,21 +695,23 @@ impl Run {
 
     fn print_table(&self) -> bool {
         let mut complete = true;
-        print!("{:<14}", "number");
-        for number in 0..18 {
+        print!("{:<15}", "number");
+        for number in 0..NUMBERS {
             print!("{number:>7}");
         }
         println!();
-        let mut rows: Vec<(&str, &[u32], &[u64; 18])> = vec![];
+        let mut rows: Vec<(&str, &[u32], &[u64; NUMBERS])> = vec![];
         for (i, kind) in KINDS.iter().enumerate() {
             rows.push((kind.name(), kind.numbers(), &self.table[i]));
             if *kind == Kind::Batch {
                 rows.push(("batch's items", &ITEM_NUMBERS, &self.items));
             }
         }
+        rows.push(("code 8, of both", &[0, 9, 17, 18], &self.by_name[0]));
+        rows.push(("code 9, of both", &[0, 9, 10, 11, 12, 13, 17, 18], &self.by_name[1]));
         for (name, numbers, counts) in rows {
-            print!("{name:<14}");
-            for number in 0..18u32 {
+            print!("{name:<15}");
+            for number in 0..NUMBERS as u32 {
                 let n = counts[number as usize];
                 if numbers.contains(&number) {
                     print!("{n:>7}");
@@ -642,11 +725,13 @@ impl Run {
             }
             println!();
         }
-        println!(
-            "commands done: dump {}, cancel {}, load {}, pool statistics {}",
-            self.done[0], self.done[1], self.done[2], self.done[3]
-        );
-        complete && self.done.iter().all(|&n| n > 0)
+        let list = |names: &[&str], counts: &[u64]| -> String {
+            names.iter().zip(counts).map(|(name, n)| format!("{name} {n}")).collect::<Vec<String>>().join(", ")
+        };
+        println!("commands done: {}", list(&CODES.map(|code| code.1), &self.done));
+        println!("symbol tables that codes 8 and 9 tested: {}", list(&TABLES[..NO_TABLE], &self.tables));
+        println!("no symbol tables: {}; table or none: {}", list(&TABLES[NO_TABLE..DISTURBED], &self.tables[NO_TABLE..]), self.tables[DISTURBED]);
+        complete && self.done.iter().all(|&n| n > 0) && self.tables.iter().all(|&n| n > 0)
     }
 }
 
@@ -680,7 +765,15 @@ fn list_slot(rng: &mut Rng) -> Call {
     call
 }
 
-fn list_command(rng: &mut Rng, state: &State, setup: &Setup, image: &mut [u32], mood: u64) -> Call {
+/// A dump by its address, or by a name if one reaches it.
+fn list_dump(rng: &mut Rng, symbols: &Symbols, unit: u32, transaction: u32, words: u32, address: u32) -> Vec<u8> {
+    match symbols.reach(rng, address).filter(|_| rng.one_in(2)) {
+        None => dump_command(rng, unit, transaction, words, address),
+        Some((i, offset)) => by_name_command(rng, unit, transaction, &symbols.records[i].name, offset, words),
+    }
+}
+
+fn list_command(rng: &mut Rng, state: &State, setup: &Setup, symbols: &Symbols, image: &mut [u32], mood: u64) -> Call {
     let mut call = Call::new(Kind::Command, rng);
     let n = rng.pick(&[32, 33, 40, 100]);
     call.buffer = rng.bytes(n);
@@ -711,7 +804,7 @@ fn list_command(rng: &mut Rng, state: &State, setup: &Setup, image: &mut [u32], 
             };
             // Dumps of scores of packets only now and then, so that lists see many dumps.
             let words = if words > 5_000 && !rng.one_in(4) { rng.between(1, 5_000) as u32 } else { words };
-            dump_command(rng, unit, transaction, words, region.start.0 + 4 * first)
+            list_dump(rng, symbols, unit, transaction, words, region.start.0 + 4 * first)
         }
         6 if !busy.is_empty() && (mood == 1 || rng.one_in(2)) => {
             let transaction = rng.pick(&busy);
@@ -730,7 +823,7 @@ fn list_command(rng: &mut Rng, state: &State, setup: &Setup, image: &mut [u32], 
                     let size = rng.between(1, 11) as u32;
                     load_command(rng, unit, transaction, size, address)
                 }
-                None => some_command(rng, state),
+                None => some_command(rng, state, symbols),
             }
         }
         8 => {
@@ -743,7 +836,7 @@ fn list_command(rng: &mut Rng, state: &State, setup: &Setup, image: &mut [u32], 
             }
             pool_command(rng, unit, transaction, p as u32)
         }
-        _ => some_command(rng, state),
+        _ => some_command(rng, state, symbols),
     };
     if rng.one_in(10) {
         damage_packet(rng, &mut call.packet, true);
@@ -752,17 +845,26 @@ fn list_command(rng: &mut Rng, state: &State, setup: &Setup, image: &mut [u32], 
 }
 
 /// A few list commands in one call, each for the state that those before it leave. `long` is for `long_dumps`, in lists that have them.
-fn list_batch(rng: &mut Rng, state: &State, setup: &Setup, image: &mut [u32], mood: u64, long: Option<u64>) -> Call {
+fn list_batch(
+    rng: &mut Rng,
+    state: &State,
+    setup: &Setup,
+    symbols: &Symbols,
+    image: &mut [u32],
+    mood: u64,
+    long: Option<u64>,
+) -> Call {
     let n = if rng.one_in(12) { 64 } else { rng.between(1, 10) };
     let mut state = state.clone();
     let mut items = vec![];
     let mut left = image.to_vec();
+    let table = symbols.bytes();
     for _ in 0..n {
-        let mut one = list_command(rng, &state, setup, image, mood);
+        let mut one = list_command(rng, &state, setup, symbols, image, mood);
         if let Some(done) = long {
-            long_dumps(rng, &mut one, &state, setup, done);
+            long_dumps(rng, &mut one, &state, setup, symbols, done);
         }
-        state = command_call(&state, &one.packet, &mut left, &mut [0; 32]).state;
+        state = command_call(&state, &one.packet, &table, &mut left, &mut [0; 32]).state;
         let leaves = rng.one_in(12);
         items.push(Item { packet: one.packet, spot: if leaves { Spot::Beyond } else { Spot::Own }, expected: leaves.then_some(4) });
     }
@@ -773,14 +875,14 @@ fn list_batch(rng: &mut Rng, state: &State, setup: &Setup, image: &mut [u32], mo
 }
 
 /// In lists with a region of 65,535 words or more: dumps of 65,535 words to begin with, and few cancels of such, so that they finish.
-fn long_dumps(rng: &mut Rng, call: &mut Call, state: &State, setup: &Setup, done: u64) {
+fn long_dumps(rng: &mut Rng, call: &mut Call, state: &State, setup: &Setup, symbols: &Symbols, done: u64) {
     let n = setup.region_count as usize;
     let Some(region) = setup.regions[..n].iter().find(|region| region.size >= 65_535) else {
         return;
     };
     if done < 40 && rng.one_in(3) {
         let transaction = free_transaction(rng, state);
-        call.packet = dump_command(rng, setup.unit, transaction, 65_535, region.start.0);
+        call.packet = list_dump(rng, symbols, setup.unit, transaction, 65_535, region.start.0);
         return;
     }
     let is_cancel = call.packet.len() == 10 && call.packet[6] == 1;
@@ -855,7 +957,7 @@ impl ListFault {
     fn command(&mut self, packet: &[u8], image: &[u32]) {
         let number = u16::from_be_bytes([packet[8] & 15, packet[9]]);
         match packet[6] {
-            0 => {
+            0 | 9 => {
                 self.firsts.retain(|(other, _)| *other != number);
                 self.frozen.retain(|(other, _)| *other != number);
                 self.frozen.push((number, image.to_vec()));
@@ -940,7 +1042,7 @@ fn self_test(run: &mut Run) -> bool {
     for turn in 0..4_000u64 {
         let call = match turn % 7 {
             0 => start_up_call(&mut rng, turn / 7),
-            1 => aimed_command(&mut rng, (turn / 7 % 16) as u32),
+            1 => aimed_command(&mut rng, COMMAND_NUMBERS[(turn / 7) as usize % COMMAND_NUMBERS.len()]),
             2 => aimed_slot(&mut rng, [0, 1, 2, 3, 16][(turn / 7 % 5) as usize]),
             3 => write_call(&mut rng, [0, 3, 6, 9, 33][(turn / 7 % 5) as usize]),
             4 => read_command_call(&mut rng, [0, 3, 4, 5, 6, 7, 9][(turn / 7 % 7) as usize]),
@@ -964,14 +1066,14 @@ fn self_test(run: &mut Run) -> bool {
             }
         };
         let mut bad = door.clone();
-        bad.number = if rng.one_in(2) { bad.number + 1 } else { 18 };
+        bad.number = if rng.one_in(2) { bad.number + 1 } else { 19 };
         try_one("number", bad);
         let mut bad = door.clone();
         bad.length ^= 1 << rng.below(32);
         try_one("length", bad);
         for part in [
             "block", "image", "buffer", "read-only block", "packet", "last byte of buffer", "beside a buffer", "nothing done", "record", "last record",
-            "starts", "lengths",
+            "starts", "lengths", "symbols",
         ] {
             let mut bad = door.clone();
             match part {
@@ -1014,6 +1116,10 @@ fn self_test(run: &mut Run) -> bool {
                 "lengths" if !bad.lengths.is_empty() => {
                     let at = rng.below(bad.lengths.len() as u64) as usize;
                     bad.lengths[at] ^= 1 << rng.below(32);
+                }
+                "symbols" if !bad.symbols.is_empty() => {
+                    let at = rng.below(bad.symbols.len() as u64) as usize;
+                    bad.symbols[at] ^= 1 << rng.below(8);
                 }
                 "beside a buffer" => bad.overrun = "buffer",
                 "nothing done" if door.number == 0 && door.words != call.words => bad.words = call.words.clone(),
@@ -1100,11 +1206,11 @@ fn main() {
     let complete = run.print_table();
     let s = run.sums;
     println!(
-        "lists {}: dumps accepted {}, finished {}, cancelled {}, packets {}, most packets of one dump {}, longest wait {} slots",
-        s.lists, s.accepted, s.finished, s.cancelled, s.packets, s.most_packets, s.largest_wait
+        "lists {}: dumps accepted {} ({} by name), finished {}, cancelled {}, packets {}, most packets of one dump {}, longest wait {} slots",
+        s.lists, s.accepted, s.by_name, s.finished, s.cancelled, s.packets, s.most_packets, s.largest_wait
     );
     println!(
-        "unused data words of a load, as the command reader gives them: {}",
+        "unused data words of a load and bytes of a name, as the command reader gives them: {}",
         match run.unused {
             None => "never seen",
             Some(Unused::Zero) => "0",

@@ -20,7 +20,10 @@ pub const KINDS: [Kind; 7] =
     [Kind::StartUp, Kind::Command, Kind::Batch, Kind::Slot, Kind::WriteCommand, Kind::ReadCommand, Kind::ReadPacket];
 
 /// The numbers that an item of a batch can get: its 32 bytes of reply buffer are always there.
-pub const ITEM_NUMBERS: [u32; 15] = [0, 1, 2, 4, 5, 6, 7, 8, 9, 10, 11, 12, 13, 14, 15];
+pub const ITEM_NUMBERS: [u32; 17] = [0, 1, 2, 4, 5, 6, 7, 8, 9, 10, 11, 12, 13, 14, 15, 17, 18];
+
+/// The numbers that a command call can give.
+pub const COMMAND_NUMBERS: [u32; 18] = [0, 1, 2, 3, 4, 5, 6, 7, 8, 9, 10, 11, 12, 13, 14, 15, 17, 18];
 
 impl Kind {
     pub fn name(self) -> &'static str {
@@ -39,7 +42,7 @@ impl Kind {
     pub fn numbers(self) -> &'static [u32] {
         match self {
             Kind::StartUp => &[0, 17],
-            Kind::Command => &[0, 1, 2, 3, 4, 5, 6, 7, 8, 9, 10, 11, 12, 13, 14, 15],
+            Kind::Command => &COMMAND_NUMBERS,
             Kind::Batch => &[0, 3],
             Kind::Slot => &[0, 1, 2, 3, 16],
             Kind::WriteCommand => &[0, 3, 6, 9],
@@ -63,6 +66,9 @@ pub struct Call {
     pub starts: Vec<u32>,
     pub lengths: Vec<u32>,
     pub answers: Vec<Answer>,
+    /// The symbol table, and which of `TABLES` it is.
+    pub symbols: Vec<u8>,
+    pub table: usize,
     pub image: Vec<u32>,
     /// Reply buffer, a batch's reply buffer, slot buffer, writer's buffer.
     pub buffer: Vec<u8>,
@@ -85,6 +91,8 @@ impl Call {
             starts: vec![],
             lengths: vec![],
             answers: vec![],
+            symbols: vec![],
+            table: 0,
             image: vec![],
             buffer: vec![],
             tick: 0,
@@ -268,6 +276,7 @@ pub fn good_state(rng: &mut Rng, scale: Scale) -> State {
         places: [DumpPlace::Idle; 4],
         last: rng.below(4) as u32,
         count_785: count(rng, 16_383),
+        count_786: count(rng, 16_383),
         count_788: count(rng, 16_383),
         accepted: count(rng, 65_535),
         refused: count(rng, 65_535),
@@ -426,7 +435,7 @@ fn break_setup(rng: &mut Rng, setup: &mut Setup) {
 /// Breaks one rule of a good state, for certain; gives the block.
 pub fn break_state(rng: &mut Rng, state: &State) -> Vec<u32> {
     let mut state = state.clone();
-    match rng.below(24) {
+    match rng.below(25) {
         0..=7 => break_setup(rng, &mut state.setup),
         8 => state.last = rng.pick(&[4, 5, 7, 128, 255, 256, 259, u32::MAX]),
         9 => state.count_785 = rng.pick(&[16_384, 16_385, 32_768, 65_535, 65_536, u32::MAX]),
@@ -522,10 +531,11 @@ pub fn break_state(rng: &mut Rng, state: &State) -> Vec<u32> {
             }
             return block;
         }
+        23 => state.count_786 = rng.pick(&[16_384, 16_385, 32_768, 65_535, 65_536, u32::MAX]),
         _ => {
             // Another length.
             let mut block = pack_state(&state).to_vec();
-            let length = rng.pick(&[0, 1, 54, 77, 78, 80, 81, 158]);
+            let length = rng.pick(&[0, 1, 54, 77, 78, 79, 81, 82, 160]);
             let more = rng.words(length);
             block.extend_from_slice(&more);
             block.truncate(length);
@@ -564,7 +574,7 @@ fn disturb_block(rng: &mut Rng, block: &mut Vec<u32>) {
         }
         6..=8 => {
             // The words after the regions more often, since fewer of them are idle padding.
-            let at = rng.between(49, 78) as usize;
+            let at = rng.between(49, 79) as usize;
             block[at] ^= 1 << rng.below(17);
         }
         9 => {
@@ -664,6 +674,376 @@ fn wrong_length(rng: &mut Rng, image: &mut Vec<u32>) {
 }
 
 // ------------------------------------------------------------------------------------------------------------------------------------
+// Symbol tables
+// ------------------------------------------------------------------------------------------------------------------------------------
+
+/// What a lent symbol table is: tables, those that are none, and those of which no one knows.
+pub const TABLES: [&str; 16] = [
+    "no record",
+    "one record",
+    "values",
+    "aliases",
+    "256 records",
+    "odd length",
+    "over 256",
+    "another kind",
+    "name length",
+    "zero bytes",
+    "padding",
+    "alias of itself",
+    "forward alias",
+    "loop",
+    "equal names",
+    "disturbed",
+];
+/// The first of `TABLES` that is none.
+pub const NO_TABLE: usize = 5;
+pub const DISTURBED: usize = 15;
+
+#[derive(Clone)]
+pub struct Record {
+    pub name: Vec<u8>,
+    pub alias: Option<usize>,
+    pub value: u32,
+}
+
+/// A table that keeps the rules.
+#[derive(Clone)]
+pub struct Symbols {
+    pub records: Vec<Record>,
+}
+
+fn letters(rng: &mut Rng, n: usize) -> Vec<u8> {
+    (0..n).map(|_| b'A' + rng.below(26) as u8).collect()
+}
+
+/// Some value: an address of the setup, or any number.
+fn some_value(rng: &mut Rng, setup: &Setup) -> u32 {
+    match rng.below(8) {
+        0 => rng.word(),
+        1 => rng.pick(&[0, 1, 4, 0x7FFF_FFFC, 0x8000_0000, 0xFFFF_FFFC, u32::MAX]),
+        2 | 3 => some_address(rng, setup),
+        _ => setup.regions[rng.below(u64::from(setup.region_count.clamp(1, 16))) as usize].start.0,
+    }
+}
+
+/// Some offset: none, near, to the ends of its range, any; a multiple of 4 or not.
+pub fn some_offset(rng: &mut Rng) -> i32 {
+    match rng.below(8) {
+        0 => 0,
+        1 => rng.pick(&[1, -1, 4, -4, i32::MAX, i32::MIN, i32::MAX - 3, i32::MIN + 4]),
+        2 => rng.word() as i32,
+        3 => rng.between(0, 40) as i32 - 20,
+        _ => 4 * (rng.between(0, 4_000) as i32 - 2_000),
+    }
+}
+
+/// Names of one manner or of all: letters; alike but for the last of 48 bytes; each the beginning of the next; alike but for zero bytes at the end;
+/// any bytes.
+fn some_name(rng: &mut Rng, manner: u64, base: &[u8], i: usize) -> Vec<u8> {
+    let manner = if manner == 5 { rng.below(5) } else { manner };
+    let mut name = base.to_vec();
+    match manner {
+        0 => {
+            let n = rng.between(1, 9) as usize;
+            return letters(rng, n);
+        }
+        1 => name[47] = name[47].wrapping_add(i as u8),
+        2 => {
+            name[0] = name[0].wrapping_add((i / 48) as u8);
+            name.truncate(i % 48 + 1);
+        }
+        3 => {
+            name.truncate(2);
+            name[0] = name[0].wrapping_add((i / 8) as u8);
+            name.resize(2 + i % 8 * rng.between(1, 5) as usize, 0);
+        }
+        _ => {
+            let any = rng.between(1, 48) as usize;
+            let n = rng.pick(&[1, 2, 3, 4, 5, 47, 48, 48, any]);
+            return rng.bytes(n);
+        }
+    }
+    name
+}
+
+impl Symbols {
+    /// A table by its rules: 0 to 256 records, names of all manners, no aliases or some or a chain of them.
+    pub fn good(rng: &mut Rng, setup: &Setup) -> Symbols {
+        let n = match rng.below(24) {
+            0 => 0,
+            1 | 2 => 1,
+            3 => 256,
+            4 => rng.between(200, 255),
+            5 | 6 => rng.between(13, 60),
+            _ => rng.between(2, 12),
+        } as usize;
+        Symbols::of(rng, setup, n)
+    }
+
+    pub fn of(rng: &mut Rng, setup: &Setup, n: usize) -> Symbols {
+        let manner = rng.below(6);
+        let base = if rng.one_in(2) { letters(rng, 48) } else { rng.bytes(48) };
+        let aliases = rng.below(4);
+        let mut seen = std::collections::HashSet::new();
+        let mut records: Vec<Record> = vec![];
+        for i in 0..n {
+            let mut name = some_name(rng, manner, &base, i);
+            while !seen.insert(name.clone()) {
+                let more = rng.pick(&[2, 3, 8, 48]);
+                name = rng.bytes(more);
+            }
+            let alias = match aliases {
+                _ if i == 0 => None,
+                1 if !rng.one_in(12) => Some(i - 1), // chains
+                2 if rng.one_in(3) => Some(rng.below(i as u64) as usize),
+                3 if !rng.one_in(4) => Some(rng.pick(&[0, i / 2, i - 1])),
+                _ => None,
+            };
+            records.push(Record { name, alias, value: some_value(rng, setup) });
+        }
+        Symbols { records }
+    }
+
+    /// Which of `TABLES` it is.
+    pub fn kind(&self) -> usize {
+        match self.records.len() {
+            0 => 0,
+            1 => 1,
+            256 => 4,
+            _ => 2 + usize::from(self.records.iter().any(|record| record.alias.is_some())),
+        }
+    }
+
+    pub fn bytes(&self) -> Vec<u8> {
+        let mut all = Vec::with_capacity(56 * self.records.len());
+        for record in &self.records {
+            all.extend_from_slice(&[u8::from(record.alias.is_some()), record.name.len() as u8, 0, 0]);
+            all.extend_from_slice(&record.name);
+            all.resize(all.len() + 48 - record.name.len(), 0);
+            let number = record.alias.map_or(record.value, |other| other as u32);
+            all.extend_from_slice(&number.to_be_bytes());
+        }
+        all
+    }
+
+    /// The record with the value that record `i` is resolved to.
+    fn root(&self, i: usize) -> usize {
+        let mut at = i;
+        while let Some(other) = self.records[at].alias {
+            at = other;
+        }
+        at
+    }
+
+    pub fn value(&self, i: usize) -> u32 {
+        self.records[self.root(i)].value
+    }
+
+    pub fn some_record(&self, rng: &mut Rng) -> Option<usize> {
+        let n = self.records.len();
+        match rng.below(6) {
+            _ if n == 0 => None,
+            0 => Some(0),
+            1 => Some(n - 1),
+            _ => Some(rng.below(n as u64) as usize),
+        }
+    }
+
+    /// A record from whose value an address can be reached, and the offset to it.
+    pub fn reach(&self, rng: &mut Rng, address: u32) -> Option<(usize, i32)> {
+        for _ in 0..6 {
+            let i = self.some_record(rng)?;
+            if let Ok(offset) = i32::try_from(i64::from(address) - i64::from(self.value(i))) {
+                return Some((i, offset));
+            }
+        }
+        None
+    }
+
+    /// A name that the table has not: near one that it has, or any.
+    pub fn unknown_name(&self, rng: &mut Rng) -> Vec<u8> {
+        loop {
+            let mut name = match self.some_record(rng) {
+                Some(i) if !rng.one_in(5) => self.records[i].name.clone(),
+                _ => {
+                    let n = rng.between(1, 48) as usize;
+                    rng.bytes(n)
+                }
+            };
+            let n = name.len();
+            match rng.below(5) {
+                0 if n > 1 => name.truncate(if rng.one_in(2) { n - 1 } else { rng.between(1, n as u64 - 1) as usize }),
+                1 if n < 48 => name.push(0),
+                2 if n < 48 => {
+                    let more = rng.between(1, 48 - n as u64) as usize;
+                    let more = rng.bytes(more);
+                    name.extend_from_slice(&more);
+                }
+                3 => name[n - 1] ^= 1 << rng.below(8),
+                _ => name[rng.below(n as u64) as usize] ^= 1 << rng.below(8),
+            }
+            if self.records.iter().all(|record| record.name != name) {
+                return name;
+            }
+        }
+    }
+
+    /// The table with one rule broken, for certain; and which of `TABLES` it is then.
+    pub fn broken(&self, rng: &mut Rng) -> (Vec<u8>, usize) {
+        let n = self.records.len();
+        let mut all = self.bytes();
+        let kind = match rng.below(10) as usize + NO_TABLE {
+            6 => 6,
+            _ if n == 0 => 5,
+            13 | 14 if n == 1 => rng.pick(&[7, 8, 9, 10, 11, 12]),
+            kind => kind,
+        };
+        let i = rng.below(n as u64) as usize;
+        let at = 56 * i;
+        let alias = |all: &mut [u8], at: usize, number: u32| {
+            all[at] = 1;
+            all[at + 52..at + 56].copy_from_slice(&number.to_be_bytes());
+        };
+        match kind {
+            5 => {
+                let any = rng.between(1, 55) as usize;
+                let by = rng.pick(&[1, 4, 28, 52, 55, any]);
+                if n > 0 && rng.one_in(2) {
+                    all.truncate(all.len() - by);
+                } else {
+                    all.resize(all.len() + by, 0);
+                }
+            }
+            6 => {
+                // Records of value 0 with names of their own, up to 257 or more.
+                let to = rng.pick(&[257, 257, 257, 258, 300, 512]);
+                for k in n..to {
+                    let name = loop {
+                        let name = [vec![0x80 | k as u8, (k >> 8) as u8], rng.bytes(8)].concat();
+                        if self.records.iter().all(|record| record.name != name) {
+                            break name;
+                        }
+                    };
+                    all.extend_from_slice(&[0, 10, 0, 0]);
+                    all.extend_from_slice(&name);
+                    all.extend_from_slice(&[0; 42]);
+                }
+            }
+            7 => all[at] = rng.pick(&[2, 3, 4, 127, 128, 129, 255]),
+            8 => {
+                all[at + 1] = rng.pick(&[0, 0, 49, 49, 50, 96, 128, 176, 255]);
+                // As if the length were the only thing wrong: no name, or one that is full.
+                let full = all[at + 1] != 0;
+                for byte in &mut all[at + 4..at + 52] {
+                    *byte = if full { 1 + rng.below(255) as u8 } else { 0 };
+                }
+            }
+            9 => all[at + 2 + rng.below(2) as usize] = 1 << rng.below(8),
+            10 => {
+                // Nonzero right after the name, at the end, or between.
+                let used = (all[at + 1] as usize).min(47);
+                all[at + 1] = used as u8;
+                let any = rng.between(used as u64, 47) as usize;
+                let k = rng.pick(&[used, 47, any]);
+                all[at + 4 + k] = 1 + rng.below(255) as u8;
+            }
+            11 => alias(&mut all, at, i as u32),
+            12 => {
+                // The next one, the last, one that is not there, or a lower one modulo something.
+                let next = i as u32 + 1;
+                let low = rng.below(i as u64 + 1) as u32;
+                let last = (n as u32 - 1).max(next);
+                let number = rng.pick(&[next, last, n as u32, 256 + low, 65_536 + low, 0x0100_0000 + low, 0x8000_0000 + low, u32::MAX]);
+                alias(&mut all, at, number);
+            }
+            13 => {
+                let other = (i + 1 + rng.below(n as u64 - 1) as usize) % n;
+                alias(&mut all, at, other as u32);
+                alias(&mut all, 56 * other, i as u32);
+            }
+            _ => {
+                let other = (i + 1 + rng.below(n as u64 - 1) as usize) % n;
+                all.copy_within(at + 1..at + 52, 56 * other + 1);
+            }
+        }
+        (all, kind)
+    }
+
+    /// The table with bits or bytes changed: a table or not, no one knows beforehand.
+    pub fn disturbed(&self, rng: &mut Rng) -> (Vec<u8>, usize) {
+        let mut all = self.bytes();
+        for _ in 0..rng.between(1, 3) {
+            if all.is_empty() || rng.one_in(12) {
+                let n = rng.below(200) as usize;
+                let n = if rng.one_in(2) { n } else { n / 56 * 56 };
+                all = if rng.one_in(2) { rng.bytes(n) } else { vec![0; n] };
+                continue;
+            }
+            let record = rng.below((all.len() as u64).div_ceil(56)) as usize;
+            let any = rng.below(56) as usize;
+            let field = rng.pick(&[0, 1, 2, 3, 4, 51, 52, 53, 54, 55, 55, any]);
+            let at = (56 * record + field).min(all.len() - 1);
+            all[at] = match rng.below(3) {
+                0 => all[at] ^ 1 << rng.below(8),
+                1 => rng.pick(&[0, 1, 2, 47, 48, 49, 255]),
+                _ => all[at].wrapping_add(rng.pick(&[1, 255])),
+            };
+        }
+        (all, DISTURBED)
+    }
+
+    /// What is lent to a command that must not look at it: anything.
+    fn anything(&self, rng: &mut Rng) -> (Vec<u8>, usize) {
+        match rng.below(3) {
+            0 => (self.bytes(), self.kind()),
+            1 => self.broken(rng),
+            _ => self.disturbed(rng),
+        }
+    }
+
+    /// A dump of a range, by its address or by a name: the record that the name resolves to gets the value that suits.
+    fn dump(&mut self, rng: &mut Rng, unit: u32, transaction: u32, size: u32, address: u32) -> Vec<u8> {
+        let Some(i) = self.some_record(rng).filter(|_| rng.one_in(2)) else {
+            return dump_command(rng, unit, transaction, size, address);
+        };
+        let mut offset = some_offset(rng);
+        let value = u32::try_from(i64::from(address) - i64::from(offset)).unwrap_or_else(|_| {
+            offset = 0;
+            address
+        });
+        let root = self.root(i);
+        self.records[root].value = value;
+        by_name_command(rng, unit, transaction, &self.records[i].name, offset, size)
+    }
+
+    /// A dump by name at an address below 0 or at 2^32 and up: just out, or good modulo 2^32. None: the table has no record.
+    fn dump_outside(&mut self, rng: &mut Rng, unit: u32, transaction: u32, size: u32, address: u32) -> Option<Vec<u8>> {
+        let i = self.some_record(rng)?;
+        let address = i64::from(address);
+        let all = 1i64 << 32;
+        // Where it shall lie, and an offset that gets there.
+        let (place, offset) = match rng.below(4) {
+            0 => {
+                let place = -(rng.pick(&[1, 2, 3, 4, 4, 8, 4_096]) as i64);
+                (place, place - rng.pick(&[0, 4, 4_096, 0x7000_0000]))
+            }
+            1 => {
+                let place = all + rng.pick(&[0, 0, 1, 4, 4_096]);
+                (place, place - all + rng.pick(&[1, 4, 4_096, 0x7000_0000]))
+            }
+            _ if address < 0x7FFF_FFF0 => (address + all, rng.between(address as u64 + 1, 0x7FFF_FFFF) as i64),
+            _ if address >= 0x8000_0000 => (address - all, -(rng.between((all - address) as u64, 0x8000_0000) as i64)),
+            _ => (-4, -4),
+        };
+        let root = self.root(i);
+        self.records[root].value = u32::try_from(place - offset).expect("a value");
+        let offset = i32::try_from(offset).expect("an offset");
+        Some(by_name_command(rng, unit, transaction, &self.records[i].name, offset, size))
+    }
+}
+
+// ------------------------------------------------------------------------------------------------------------------------------------
 // Packets
 // ------------------------------------------------------------------------------------------------------------------------------------
 
@@ -727,6 +1107,51 @@ pub fn pool_command(rng: &mut Rng, unit: u32, transaction: u32, pool: u32) -> Ve
     raw_command(sequence, 7, unit, transaction, &(pool as u16).to_be_bytes())
 }
 
+/// The name field of codes 8 and 9: size, a zero pad, and 48 bytes, those past the name 0 or not.
+fn name_field(rng: &mut Rng, name: &[u8]) -> Vec<u8> {
+    let mut field = vec![name.len() as u8, 0];
+    field.extend_from_slice(name);
+    let more = rng.bytes(48 - name.len());
+    field.extend(if rng.one_in(2) { vec![0; more.len()] } else { more });
+    field
+}
+
+pub fn value_command(rng: &mut Rng, unit: u32, transaction: u32, name: &[u8]) -> Vec<u8> {
+    let body = name_field(rng, name);
+    let sequence = count(rng, 16_383);
+    raw_command(sequence, 8, unit, transaction, &body)
+}
+
+pub fn by_name_command(rng: &mut Rng, unit: u32, transaction: u32, name: &[u8], offset: i32, size: u32) -> Vec<u8> {
+    let mut body = name_field(rng, name);
+    body.extend_from_slice(&offset.to_be_bytes());
+    body.extend_from_slice(&(size as u16).to_be_bytes());
+    body.extend_from_slice(&[0; 2]);
+    let sequence = count(rng, 16_383);
+    raw_command(sequence, 9, unit, transaction, &body)
+}
+
+/// A packet of code 8, or of code 9 with any offset and size.
+fn named_command(rng: &mut Rng, unit: u32, transaction: u32, name: &[u8]) -> Vec<u8> {
+    if rng.one_in(2) {
+        return value_command(rng, unit, transaction, name);
+    }
+    let (offset, size) = (some_offset(rng), rng.pick(&SIZES));
+    by_name_command(rng, unit, transaction, name, offset, size)
+}
+
+/// A fault of number 9 that a packet of code 8 or 9 shows by itself: the name's size, the pad, the zero bits, or (if `size` says so) a size of 0.
+fn break_name_field(rng: &mut Rng, packet: &mut [u8], size: bool) {
+    let nine = packet[6] == 9;
+    match rng.below(4) {
+        0 if nine && size => packet[64..66].fill(0),
+        1 if nine => packet[66 + rng.below(2) as usize] ^= 1 << rng.below(8),
+        2 => packet[11] ^= 1 << rng.below(8),
+        _ => packet[10] = rng.pick(&[0, 0, 49, 49, 50, 64, 128 | packet[10], 255]),
+    }
+    mend_check(packet);
+}
+
 const SIZES: [u32; 12] = [0, 1, 2, 10, 11, 12, 1_015, 1_016, 1_017, 2_032, 65_534, 65_535];
 
 /// An address: at region edges, inside, outside, aligned or not, at the ends of memory.
@@ -771,19 +1196,37 @@ fn some_size(rng: &mut Rng, setup: &Setup, address: u32) -> u32 {
     }
 }
 
-/// A command packet for a state, of random fields; its header is right.
-pub fn some_command(rng: &mut Rng, state: &State) -> Vec<u8> {
+/// A command packet for a state and a symbol table, of random fields; its header is right.
+pub fn some_command(rng: &mut Rng, state: &State, symbols: &Symbols) -> Vec<u8> {
     let unit = if rng.one_in(12) { rng.below(16) as u32 } else { state.setup.unit & 15 };
     let busy = busy_transactions(state);
     let transaction = if !busy.is_empty() && rng.one_in(3) { rng.pick(&busy) & 4_095 } else { free_transaction(rng, state) };
     let address = some_address(rng, &state.setup);
     let size = some_size(rng, &state.setup, address);
-    match rng.below(9) {
+    match rng.below(13) {
         0..=2 => dump_command(rng, unit, transaction, size, address),
         3 | 4 => cancel_command(rng, unit, transaction),
         5 | 6 => {
             let size = if rng.one_in(2) { size } else { rng.between(1, 11) as u32 };
             load_command(rng, unit, transaction, size, address)
+        }
+        9..=12 => {
+            let known = symbols.some_record(rng).filter(|_| !rng.one_in(4));
+            let mut packet = match known {
+                None => {
+                    let name = symbols.unknown_name(rng);
+                    named_command(rng, unit, transaction, &name)
+                }
+                Some(i) if rng.one_in(3) => value_command(rng, unit, transaction, &symbols.records[i].name),
+                Some(i) => {
+                    let (i, offset) = symbols.reach(rng, address).unwrap_or((i, some_offset(rng)));
+                    by_name_command(rng, unit, transaction, &symbols.records[i].name, offset, size)
+                }
+            };
+            if rng.one_in(8) {
+                break_name_field(rng, &mut packet, true);
+            }
+            packet
         }
         _ => {
             let pool = if rng.one_in(6) { rng.pick(&[2, 3, 255, 256, 257, 32_768, 65_535]) } else { rng.below(2) as u32 };
@@ -904,7 +1347,7 @@ fn break_apid(rng: &mut Rng, packet: &mut [u8], own: u16, has_check: bool) {
     let other = loop {
         let other = match rng.below(3) {
             0 => own ^ (1 << rng.below(11)),
-            1 => rng.pick(&[0, 785, 788, 1604, 1605, 2_047]),
+            1 => rng.pick(&[0, 785, 786, 788, 1604, 1605, 2_047]),
             _ => rng.below(2_048) as u16,
         };
         if other != own {
@@ -921,7 +1364,7 @@ fn break_apid(rng: &mut Rng, packet: &mut [u8], own: u16, has_check: bool) {
 fn other_code(rng: &mut Rng) -> u8 {
     loop {
         let code = if rng.one_in(2) { rng.below(12) as u8 } else { rng.below(128) as u8 };
-        if ![0, 1, 4, 7].contains(&code) {
+        if ![0, 1, 4, 7, 8, 9].contains(&code) {
             return code;
         }
     }
@@ -934,7 +1377,7 @@ fn break_packet_length(rng: &mut Rng, packet: &mut Vec<u8>) {
         let to = match rng.below(6) {
             0 => right - 1,
             1 => right + 1,
-            2 => rng.pick(&[8, 9, 10, 12, 16, 60]),
+            2 => rng.pick(&[8, 9, 10, 12, 16, 60, 68]),
             3 if rng.one_in(40) => rng.pick(&[65_542, 65_541, 256 + right]),
             _ => rng.between(8, 80) as usize,
         };
@@ -982,13 +1425,13 @@ pub fn start_up_call(rng: &mut Rng, turn: u64) -> Call {
             call.fixed = pack_setup(&setup).to_vec();
             let which = rng.below(3);
             if which != 1 {
-                let n = rng.pick(&[0, 1, 53, 55, 79]);
+                let n = rng.pick(&[0, 1, 53, 55, 80]);
                 let more = rng.words(n);
                 call.fixed.extend_from_slice(&more);
                 call.fixed.truncate(n);
             }
             if which != 0 {
-                let n = rng.pick(&[0, 1, 54, 78, 80]);
+                let n = rng.pick(&[0, 1, 54, 78, 79, 81]);
                 call.words = rng.words(n);
             }
             call.expected = Some(17);
@@ -1015,19 +1458,53 @@ pub fn start_up_call(rng: &mut Rng, turn: u64) -> Call {
 // Command calls
 // ------------------------------------------------------------------------------------------------------------------------------------
 
-/// A command that earns `aim` (0 or 9 to 15) by its fields and the state, which is changed to suit; and the image.
-fn aimed_body(rng: &mut Rng, state: &mut State, aim: u32) -> (Vec<u8>, Vec<u32>) {
+/// A command packet that earns number 9 in any state; if `seen`, by what can be seen without a symbol table, so that the reader gives 9 too.
+fn aimed_nine(rng: &mut Rng, setup: &Setup, symbols: &mut Symbols, seen: bool) -> Vec<u8> {
+    let unit = setup.unit;
+    let transaction = rng.below(4_096) as u32;
+    let address = some_address(rng, setup);
+    let size = some_size(rng, setup, address);
+    let odd = address | rng.between(1, 3) as u32;
+    match rng.below(8) {
+        0 if seen => dump_command(rng, unit, transaction, size, odd),
+        0 => symbols.dump(rng, unit, transaction, size, odd),
+        1 => symbols.dump(rng, unit, transaction, 0, address),
+        2 => load_command(rng, unit, transaction, size, odd),
+        3 => load_command(rng, unit, transaction, wrong_load_size(size), address),
+        4 if !seen => {
+            let outside = symbols.dump_outside(rng, unit, transaction, size, address & !3);
+            outside.unwrap_or_else(|| dump_command(rng, unit, transaction, 0, address))
+        }
+        5 | 6 => {
+            // The table has the name or not.
+            let name = match symbols.some_record(rng).filter(|_| !rng.one_in(3)) {
+                Some(i) => symbols.records[i].name.clone(),
+                None => symbols.unknown_name(rng),
+            };
+            let mut packet = named_command(rng, unit, transaction, &name);
+            break_name_field(rng, &mut packet, seen);
+            packet
+        }
+        _ => {
+            let pool = rng.pick(&[2, 3, 255, 256, 257, 32_768, 65_535]);
+            pool_command(rng, unit, transaction, pool)
+        }
+    }
+}
+
+/// A command that earns `aim` (0, 9 to 15, 17 or 18) by its fields, the state and the symbol table, which are changed to suit; and the image.
+fn aimed_body(rng: &mut Rng, state: &mut State, symbols: &mut Symbols, aim: u32) -> (Vec<u8>, Vec<u32>) {
     let unit = state.setup.unit;
     let n = state.setup.region_count as usize;
     let mut pool_wanted = (rng.below(2) as usize, None);
     let packet = match aim {
-        0 => match rng.below(4) {
+        0 => match rng.below(5) {
             0 => {
                 force_idle(rng, state);
                 let region = state.setup.regions[force_dump_region(rng, state)];
                 let transaction = free_transaction(rng, state);
                 let dump = dump_in(rng, &region, transaction);
-                dump_command(rng, unit, transaction, dump.requested, dump.start.0)
+                symbols.dump(rng, unit, transaction, dump.requested, dump.start.0)
             }
             1 => {
                 let (_, dump) = force_busy(rng, state);
@@ -1043,6 +1520,14 @@ fn aimed_body(rng: &mut Rng, state: &mut State, aim: u32) -> (Vec<u8>, Vec<u32>)
                 let transaction = rng.below(4_096) as u32;
                 load_command(rng, unit, transaction, size, start.0)
             }
+            3 => {
+                if symbols.records.is_empty() {
+                    *symbols = Symbols::of(rng, &state.setup, 1);
+                }
+                let i = symbols.some_record(rng).unwrap_or(0);
+                let transaction = rng.below(4_096) as u32;
+                value_command(rng, unit, transaction, &symbols.records[i].name)
+            }
             _ => {
                 let p = force_pool(rng, state);
                 pool_wanted = (p, Some(true));
@@ -1050,22 +1535,7 @@ fn aimed_body(rng: &mut Rng, state: &mut State, aim: u32) -> (Vec<u8>, Vec<u32>)
                 pool_command(rng, unit, transaction, p as u32)
             }
         },
-        9 => {
-            let transaction = rng.below(4_096) as u32;
-            let address = some_address(rng, &state.setup);
-            let size = some_size(rng, &state.setup, address);
-            let odd = address | rng.between(1, 3) as u32;
-            match rng.below(5) {
-                0 => dump_command(rng, unit, transaction, size, odd),
-                1 => dump_command(rng, unit, transaction, 0, address),
-                2 => load_command(rng, unit, transaction, size, odd),
-                3 => load_command(rng, unit, transaction, wrong_load_size(size), address),
-                _ => {
-                    let pool = rng.pick(&[2, 3, 255, 256, 257, 32_768, 65_535]);
-                    pool_command(rng, unit, transaction, pool)
-                }
-            }
-        }
+        9 => aimed_nine(rng, &state.setup, symbols, false),
         10 => {
             let transaction = rng.below(4_096) as u32;
             if rng.one_in(5) {
@@ -1105,7 +1575,7 @@ fn aimed_body(rng: &mut Rng, state: &mut State, aim: u32) -> (Vec<u8>, Vec<u32>)
                 if load {
                     load_command(rng, unit, transaction, size as u32, address as u32)
                 } else {
-                    dump_command(rng, unit, transaction, size as u32, address as u32)
+                    symbols.dump(rng, unit, transaction, size as u32, address as u32)
                 }
             }
         }
@@ -1133,7 +1603,7 @@ fn aimed_body(rng: &mut Rng, state: &mut State, aim: u32) -> (Vec<u8>, Vec<u32>)
                     }
                 }
                 let size = rng.between(1, u64::from(rest.min(65_535))) as u32;
-                dump_command(rng, unit, transaction, size, start.0)
+                symbols.dump(rng, unit, transaction, size, start.0)
             }
         }
         12 | 13 => {
@@ -1144,11 +1614,29 @@ fn aimed_body(rng: &mut Rng, state: &mut State, aim: u32) -> (Vec<u8>, Vec<u32>)
             let region = state.setup.regions[force_dump_region(rng, state)];
             let transaction = if aim == 12 { busy.transaction } else { free_transaction(rng, state) };
             let dump = dump_in(rng, &region, transaction);
-            dump_command(rng, unit, transaction, dump.requested, dump.start.0)
+            symbols.dump(rng, unit, transaction, dump.requested, dump.start.0)
         }
         14 => {
             let transaction = free_transaction(rng, state);
             cancel_command(rng, unit, transaction)
+        }
+        17 => {
+            // Whatever comes after the table may be wrong too.
+            let transaction = rng.below(4_096) as u32;
+            let name = match symbols.some_record(rng).filter(|_| !rng.one_in(3)) {
+                Some(i) => symbols.records[i].name.clone(),
+                None => symbols.unknown_name(rng),
+            };
+            let mut packet = named_command(rng, unit, transaction, &name);
+            if rng.one_in(3) {
+                break_name_field(rng, &mut packet, true);
+            }
+            packet
+        }
+        18 => {
+            let name = symbols.unknown_name(rng);
+            let transaction = rng.below(4_096) as u32;
+            named_command(rng, unit, transaction, &name)
         }
         _ => {
             let p = force_pool(rng, state);
@@ -1196,18 +1684,32 @@ fn short_length(rng: &mut Rng, need: usize) -> usize {
     }
 }
 
-/// A command call that must earn `aim`: that fault is in it, and some of the faults of higher numbers too.
+fn is_by_name(packet: &[u8]) -> bool {
+    packet[6] == 8 || packet[6] == 9
+}
+
+/// A command call that must earn `aim`: that fault is in it, and some of the faults that come after it in the order of tests.
 pub fn aimed_command(rng: &mut Rng, aim: u32) -> Call {
     let mut call = Call::new(Kind::Command, rng);
     let scale = scale(rng);
     let mut state = good_state(rng, scale);
-    let inner = if aim == 0 || aim >= 9 { aim } else { rng.pick(&[0, 0, 9, 10, 11, 12, 13, 14, 15]) };
-    let (packet, image) = aimed_body(rng, &mut state, inner);
+    let inner = if aim == 0 || aim >= 9 { aim } else { rng.pick(&[0, 0, 9, 10, 11, 12, 13, 14, 15, 17, 18]) };
+    let mut symbols = Symbols::good(rng, &state.setup);
+    let (packet, image) = aimed_body(rng, &mut state, &mut symbols, inner);
     call.packet = packet;
     call.image = image;
+    (call.symbols, call.table) = match (inner, is_by_name(&call.packet)) {
+        (17, _) => symbols.broken(rng),
+        (_, true) => (symbols.bytes(), symbols.kind()),
+        (_, false) => symbols.anything(rng),
+    };
     // Faults above the aim come in addition, one in six each.
     let mut has = |number: u32| aim == number || (aim != 0 && number > aim && rng.one_in(6));
     let faults: Vec<u32> = (1..=8).filter(|&number| has(number)).collect();
+    // A command that is refused before the table does not look at it.
+    if (1..=8).contains(&aim) && rng.one_in(4) {
+        (call.symbols, call.table) = symbols.anything(rng);
+    }
     let p = &mut call.packet;
     if faults.contains(&8) {
         p[8] ^= (rng.between(1, 15) << 4) as u8;
@@ -1241,10 +1743,16 @@ pub fn free_command(rng: &mut Rng) -> Call {
     let mut call = Call::new(Kind::Command, rng);
     let scale = scale(rng);
     let state = good_state(rng, scale);
-    call.packet = some_command(rng, &state);
+    let symbols = Symbols::good(rng, &state.setup);
+    call.packet = some_command(rng, &state, &symbols);
     if rng.one_in(3) {
         damage_packet(rng, &mut call.packet, true);
     }
+    (call.symbols, call.table) = match rng.below(4) {
+        0 => symbols.disturbed(rng),
+        1 if rng.one_in(3) => symbols.broken(rng),
+        _ => (symbols.bytes(), symbols.kind()),
+    };
     let last = rng.below(2) as usize;
     call.image = image_for(rng, &state.setup, last, None);
     if rng.one_in(20) {
@@ -1292,7 +1800,7 @@ fn beyond(rng: &mut Rng, bytes: u32, tail: u32) -> (u32, u32) {
         // Modulo 2^32 the end is that of a packet at the buffer's beginning, or near it.
         6 => {
             let back = rng.between(1, 100) as u32;
-            (back.wrapping_neg(), back + rng.pick(&[0, 1, 10, 12, 16, 60]))
+            (back.wrapping_neg(), back + rng.pick(&[0, 1, 10, 12, 16, 60, 68]))
         }
         // A length near 2^32: the end is at 2^32, one before it, or past it.
         _ => {
@@ -1365,8 +1873,9 @@ fn break_header(rng: &mut Rng, packet: &mut Vec<u8>) -> u32 {
     number
 }
 
-/// Items for a state, which follows the dumps and cancels among them for as long as each one's answer is known.
-fn some_items(rng: &mut Rng, state: &State, n: usize) -> Vec<Item> {
+/// Items for a state, which follows the dumps and cancels among them for as long as each one's answer is known. `table` says that the symbols are
+/// lent as they are, not broken.
+fn some_items(rng: &mut Rng, state: &State, symbols: &Symbols, table: bool, n: usize) -> Vec<Item> {
     let mut state = state.clone();
     let unit = state.setup.unit;
     let mut known = true;
@@ -1376,14 +1885,16 @@ fn some_items(rng: &mut Rng, state: &State, n: usize) -> Vec<Item> {
     while items.len() < n {
         let busy = busy_transactions(&state);
         let own = |packet, expected| Item { packet, spot: Spot::Own, expected };
-        let item = match rng.below(18) {
+        let item = match rng.below(22) {
             0..=3 if !dump_able.is_empty() => {
                 let region = state.setup.regions[rng.pick(&dump_able)];
                 let again = !busy.is_empty() && rng.one_in(4);
                 let transaction = if again { rng.pick(&busy) } else { free_transaction(rng, &state) };
                 let dump = Dump { sent: 0, ..dump_in(rng, &region, transaction) };
                 let idle = state.places.iter().position(|place| *place == DumpPlace::Idle);
+                let by_name = symbols.reach(rng, dump.start.0).filter(|_| rng.one_in(2));
                 let number = match idle {
+                    _ if by_name.is_some() && !table => 17,
                     _ if again => 12,
                     None => 13,
                     Some(i) => {
@@ -1391,7 +1902,11 @@ fn some_items(rng: &mut Rng, state: &State, n: usize) -> Vec<Item> {
                         0
                     }
                 };
-                own(dump_command(rng, unit, transaction, dump.requested, dump.start.0), known.then_some(number))
+                let packet = match by_name {
+                    None => dump_command(rng, unit, transaction, dump.requested, dump.start.0),
+                    Some((i, offset)) => by_name_command(rng, unit, transaction, &symbols.records[i].name, offset, dump.requested),
+                };
+                own(packet, (known || number == 17).then_some(number))
             }
             4..=6 => {
                 let found = !busy.is_empty() && !rng.one_in(4);
@@ -1429,7 +1944,7 @@ fn some_items(rng: &mut Rng, state: &State, n: usize) -> Vec<Item> {
                 own(pool_command(rng, unit, transaction, p as u32), none.then_some(10))
             }
             12 => {
-                let mut packet = some_command(rng, &state);
+                let mut packet = some_command(rng, &state, symbols);
                 if packet[8] >> 4 != unit as u8 {
                     packet[8] = (unit << 4) as u8 | packet[8] & 15;
                     mend_check(&mut packet);
@@ -1455,9 +1970,31 @@ fn some_items(rng: &mut Rng, state: &State, n: usize) -> Vec<Item> {
                 }
                 Item { packet, spot: Spot::On(other, from), expected: None }
             }
+            18..=20 => {
+                let transaction = rng.below(4_096) as u32;
+                let found = symbols.some_record(rng).filter(|_| !rng.one_in(4));
+                let mut packet = match found {
+                    Some(i) => value_command(rng, unit, transaction, &symbols.records[i].name),
+                    None => {
+                        let name = symbols.unknown_name(rng);
+                        named_command(rng, unit, transaction, &name)
+                    }
+                };
+                let wrong = rng.one_in(8);
+                if wrong {
+                    break_name_field(rng, &mut packet, false);
+                }
+                let number = match found {
+                    _ if !table => 17,
+                    _ if wrong => 9,
+                    None => 18,
+                    Some(_) => 0,
+                };
+                own(packet, Some(number))
+            }
             _ => {
                 known = false;
-                let mut packet = some_command(rng, &state);
+                let mut packet = some_command(rng, &state, symbols);
                 if rng.one_in(3) {
                     damage_packet(rng, &mut packet, true);
                 }
@@ -1499,9 +2036,12 @@ pub fn aimed_batch(rng: &mut Rng, aim: u32) -> Call {
         (3, 4 | 5) => item_count(rng).max(1),
         _ => item_count(rng),
     };
-    let items = some_items(rng, &state, n);
+    let symbols = Symbols::good(rng, &state.setup);
+    let table = !rng.one_in(6);
+    let items = some_items(rng, &state, &symbols, table, n);
     lay_out(rng, &mut call, &items);
     spare(rng, &mut call);
+    (call.symbols, call.table) = if table { (symbols.bytes(), symbols.kind()) } else { symbols.broken(rng) };
     let last = rng.below(2) as usize;
     call.image = image_for(rng, &state.setup, last, None);
     call.words = pack_state(&state).to_vec();
@@ -1548,7 +2088,7 @@ pub fn free_batch(rng: &mut Rng) -> Call {
     call.expected_items = vec![];
     for _ in 0..rng.below(3) {
         let n = call.starts.len();
-        match rng.below(6) {
+        match rng.below(7) {
             0 => disturb_block(rng, &mut call.words),
             1 if rng.one_in(3) && !call.image.is_empty() => wrong_length(rng, &mut call.image),
             2 if n > 0 => {
@@ -1562,6 +2102,11 @@ pub fn free_batch(rng: &mut Rng) -> Call {
             4 if !call.packet.is_empty() => {
                 let at = rng.below(call.packet.len() as u64) as usize;
                 call.packet[at] ^= 1 << rng.below(8);
+            }
+            5 if !call.symbols.is_empty() => {
+                let at = rng.below(call.symbols.len() as u64) as usize;
+                call.symbols[at] ^= 1 << rng.below(8);
+                call.table = DISTURBED;
             }
             _ => {
                 // The buffer ends before some of the items.
@@ -1625,7 +2170,7 @@ pub fn free_slot(rng: &mut Rng) -> Call {
 /// Command writer: aims 0, 3 (buffer), 6, 9 and 33 (3 by the block's length).
 pub fn write_call(rng: &mut Rng, aim: u32) -> Call {
     let mut call = Call::new(Kind::WriteCommand, rng);
-    let code = rng.pick(&[0, 1, 4, 7]);
+    let code = rng.pick(&[0, 1, 4, 7, 8, 8, 9, 9]);
     let mut block = rng.words(COMMAND_WORDS); // unused words are random: they are not read
     block[0] = code;
     block[1] = count(rng, 16_383);
@@ -1645,6 +2190,17 @@ pub fn write_call(rng: &mut Rng, aim: u32) -> Call {
             block[4] = rng.between(1, 11) as u32;
             block[5] = rng.word() & !3;
             60
+        }
+        8 | 9 => {
+            let any = rng.between(1, 48) as u32;
+            block[19] = rng.pick(&[1, 2, 3, 4, 5, 47, 48, any]);
+            if code == 8 {
+                60
+            } else {
+                block[4] = rng.pick(&[1, 2, 11, 12, 1_016, 1_017, 65_534, 65_535, 256, 4_660]);
+                block[20] = some_offset(rng) as u32;
+                68
+            }
         }
         _ => {
             block[6] = rng.below(2) as u32;
@@ -1667,6 +2223,8 @@ pub fn write_call(rng: &mut Rng, aim: u32) -> Call {
                     0 => block[4] = rng.pick(&[0, 12, 13, 255, 256, 267, 65_535, 65_536, 65_537, 65_547, u32::MAX]),
                     _ => block[5] |= rng.between(1, 3) as u32,
                 },
+                9 if rng.one_in(2) => block[4] = rng.pick(&[0, 0, 65_536, 65_537, 0x8000_0001, u32::MAX]),
+                8 | 9 => block[19] = rng.pick(&[0, 0, 49, 49, 50, 255, 256, 257, 304, 65_537, 0x8000_0001, u32::MAX]),
                 _ => block[6] = rng.pick(&[2, 3, 255, 256, 65_535, 65_536, 65_537, u32::MAX]),
             },
         }
@@ -1675,11 +2233,11 @@ pub fn write_call(rng: &mut Rng, aim: u32) -> Call {
     let n = if short { short_length(rng, need) } else { buffer_length(rng, need) };
     call.buffer = rng.bytes(n);
     if aim == 6 || (aim == 33 && rng.one_in(3)) {
-        block[0] = rng.pick(&[2, 3, 5, 6, 8, 9, 11, 127, 128, 132, 255, 256, 257, 260, 263, 65_536, 0x8000_0000, u32::MAX]);
+        block[0] = rng.pick(&[2, 3, 5, 6, 10, 11, 127, 128, 132, 136, 255, 256, 257, 260, 263, 264, 265, 65_536, 0x8000_0000, u32::MAX]);
     }
     call.fixed = block;
     if aim == 33 {
-        let n = rng.pick(&[0, 1, 7, 17, 19, 36]);
+        let n = rng.pick(&[0, 1, 7, 18, 20, 22, 42]);
         let more = rng.words(n);
         call.fixed.extend_from_slice(&more);
         call.fixed.truncate(n);
@@ -1698,7 +2256,8 @@ pub fn read_command_call(rng: &mut Rng, aim: u32) -> Call {
     let mut call = Call::new(Kind::ReadCommand, rng);
     if aim == 99 {
         let state = good_state(rng, Scale::Small);
-        call.packet = some_command(rng, &state);
+        let symbols = Symbols::of(rng, &state.setup, 4);
+        call.packet = some_command(rng, &state, &symbols);
         damage_packet(rng, &mut call.packet, true);
         let wrong = rng.one_in(30);
         call.words = reader_block(rng, COMMAND_WORDS, wrong);
@@ -1706,7 +2265,11 @@ pub fn read_command_call(rng: &mut Rng, aim: u32) -> Call {
     }
     let mut state = good_state(rng, Scale::Small);
     let inner = if aim == 9 || (aim != 0 && rng.one_in(3)) { 9 } else { rng.pick(&[0, 10, 11, 12, 13, 14, 15]) };
-    call.packet = aimed_body(rng, &mut state, inner).0;
+    let mut symbols = Symbols::of(rng, &state.setup, 4);
+    call.packet = match inner {
+        9 => aimed_nine(rng, &state.setup, &mut symbols, true),
+        _ => aimed_body(rng, &mut state, &mut symbols, inner).0,
+    };
     let mut has = |number: u32| aim == number || (aim != 0 && number > aim && rng.one_in(4));
     let faults: Vec<u32> = (3..=7).filter(|&number| has(number)).collect();
     let p = &mut call.packet;

@@ -1,4 +1,4 @@
-//! The memory service of paper 01 with request A1 of paper 02, written a second time, from the papers alone.
+//! The memory service of paper 01 with requests A1 and A2 of paper 02, written a second time, from the papers alone.
 //!
 //! Plain style: one function for each rule, each naming the section of the paper that it comes from. All sums of addresses are done in 64 bits.
 
@@ -29,9 +29,14 @@ pub const BATCH_ITEMS: usize = 64;
 pub const SLOT_BYTES: usize = 4_092;
 pub const PACKET_HEADER_BYTES: usize = 28;
 pub const LOAD_WORDS: usize = 11;
+pub const NAME_BYTES: usize = 48;
+pub const SYMBOLS_MOST: usize = 256;
+pub const SYMBOL_BYTES: usize = 56;
+pub const VALUE_BYTES: usize = 12;
 
 pub const APID_COMMAND: u32 = 1604;
 pub const APID_POOL: u32 = 785;
+pub const APID_SYMBOL: u32 = 786;
 pub const APID_DUMP: u32 = 788;
 
 // ------------------------------------------------------------------------------------------------------------------------------------
@@ -85,6 +90,7 @@ pub struct State {
     pub places: [DumpPlace; 4],
     pub last: u32,
     pub count_785: u32,
+    pub count_786: u32,
     pub count_788: u32,
     pub accepted: u32,
     pub refused: u32,
@@ -188,7 +194,7 @@ fn place_in_image(setup: &Setup, i: usize, address: Address) -> ImageWord {
 
 /// "A fresh state has four idle dump places, last place served 3, and all counts 0."
 fn fresh(setup: Setup) -> State {
-    State { setup, places: [DumpPlace::Idle; 4], last: 3, count_785: 0, count_788: 0, accepted: 0, refused: 0 }
+    State { setup, places: [DumpPlace::Idle; 4], last: 3, count_785: 0, count_786: 0, count_788: 0, accepted: 0, refused: 0 }
 }
 
 /// "a state of zero regions, no pools, unit 0 and the rest as if fresh".
@@ -266,6 +272,9 @@ pub fn state_is_good(state: &State) -> bool {
         return false;
     }
     if state.count_785 > PACKET_COUNT_MOST || state.count_788 > PACKET_COUNT_MOST {
+        return false;
+    }
+    if state.count_786 > PACKET_COUNT_MOST {
         return false;
     }
     if state.accepted > COMMAND_COUNT_MOST || state.refused > COMMAND_COUNT_MOST {
@@ -356,6 +365,15 @@ pub enum Command {
     Cancel,
     Load { size: u32, address: Address, data: [u32; LOAD_WORDS] },
     PoolStatistics { pool: u32 },
+    SymbolValue { name: Name },
+    DumpByName { name: Name, offset: i32, size: u32 },
+}
+
+/// The name field of codes 8 and 9: 48 bytes, of which the first `size` are the name.
+#[derive(Clone, PartialEq, Eq, Debug)]
+pub struct Name {
+    pub size: u32,
+    pub bytes: [u8; NAME_BYTES],
 }
 
 #[derive(Clone, PartialEq, Eq, Debug)]
@@ -373,6 +391,8 @@ pub fn packet_bytes_of_code(code: u32) -> Option<usize> {
         1 => Some(10),
         4 => Some(60),
         7 => Some(12),
+        8 => Some(60),
+        9 => Some(68),
         _ => None,
     }
 }
@@ -384,6 +404,8 @@ pub fn code_of(command: &Command) -> u32 {
         Command::Cancel => 1,
         Command::Load { .. } => 4,
         Command::PoolStatistics { .. } => 7,
+        Command::SymbolValue { .. } => 8,
+        Command::DumpByName { .. } => 9,
     }
 }
 
@@ -419,7 +441,24 @@ fn frame_number(packet: &[u8]) -> u32 {
     }
 }
 
-/// The fields of a packet whose frame is right (`frame_number` is 0). All eleven data words of a load are taken as they stand.
+/// Table 9 of source document 000: name size, pad, and 48 bytes.
+fn name_of(packet: &[u8]) -> Name {
+    let mut bytes = [0; NAME_BYTES];
+    bytes.copy_from_slice(&packet[12..60]);
+    Name { size: u32::from(packet[10]), bytes }
+}
+
+/// "nonzero pad or zero bits outside the name": of a packet of code 8 or 9 whose frame is right.
+fn padding_is_wrong(packet: &[u8]) -> bool {
+    match packet[6] {
+        8 => packet[11] != 0,
+        9 => packet[11] != 0 || get16(packet, 66) != 0,
+        _ => false,
+    }
+}
+
+/// The fields of a packet whose frame is right (`frame_number` is 0). All eleven data words of a load, and all 48 bytes of a name field, are taken
+/// as they stand.
 fn fields_of(packet: &[u8]) -> Fields {
     let command = match packet[6] {
         0 => Command::Dump { size: get16(packet, 10), address: Address(get32(packet, 12)) },
@@ -431,20 +470,115 @@ fn fields_of(packet: &[u8]) -> Fields {
             }
             Command::Load { size: get16(packet, 10), address: Address(get32(packet, 12)), data }
         }
-        _ => Command::PoolStatistics { pool: get16(packet, 10) },
+        7 => Command::PoolStatistics { pool: get16(packet, 10) },
+        8 => Command::SymbolValue { name: name_of(packet) },
+        _ => Command::DumpByName { name: name_of(packet), offset: get32(packet, 60) as i32, size: get16(packet, 64) },
     };
     Fields { sequence: sequence_count_of(packet), unit: get16(packet, 8) / 4_096, transaction: get16(packet, 8) % 4_096, command }
 }
 
-/// Number 9: "address not a multiple of 4; dump size 0; load size 0 or over 11; pool over 1". A dump's size is a 16-bit number; for the writer,
-/// which could be given more, more is out of bounds too.
+/// Number 9: "address not a multiple of 4; dump size 0; load size 0 or over 11; pool over 1"; by A2 "name length 0 or over 48". What can be seen
+/// without a symbol table. A dump's size is a 16-bit number; for the writer, which could be given more, more is out of bounds too.
 fn fields_break_bounds(command: &Command) -> bool {
     match command {
-        Command::Dump { size, address } => !aligned(*address) || *size == 0 || *size > REQUEST_MOST,
+        Command::Dump { size, address } => !aligned(*address) || dump_size_is_wrong(*size),
         Command::Cancel => false,
         Command::Load { size, address, .. } => !aligned(*address) || *size == 0 || *size > LOAD_WORDS as u32,
         Command::PoolStatistics { pool } => *pool > 1,
+        Command::SymbolValue { name } => name_size_is_wrong(name),
+        Command::DumpByName { name, size, .. } => name_size_is_wrong(name) || dump_size_is_wrong(*size),
     }
+}
+
+/// "name length 0 or over 48".
+fn name_size_is_wrong(name: &Name) -> bool {
+    name.size == 0 || name.size > NAME_BYTES as u32
+}
+
+fn dump_size_is_wrong(size: u32) -> bool {
+    size == 0 || size > REQUEST_MOST
+}
+
+// ------------------------------------------------------------------------------------------------------------------------------------
+// Request A2: the symbol table
+// ------------------------------------------------------------------------------------------------------------------------------------
+
+#[derive(Clone, Copy, PartialEq, Eq, Debug)]
+pub enum Meaning {
+    /// Kind 0.
+    Value(u32),
+    /// Kind 1: the number of a lower-numbered record.
+    Alias(usize),
+}
+
+#[derive(Clone, PartialEq, Eq, Debug)]
+pub struct Symbol {
+    /// As long as the record says.
+    pub name: Vec<u8>,
+    pub meaning: Meaning,
+}
+
+/// Record `number` of the table: "kind, name length 1 to 48, two zero bytes, name padded with zeros to 48, number." None: another one.
+fn symbol_of(record: &[u8], number: usize) -> Option<Symbol> {
+    let length = usize::from(record[1]);
+    if length < 1 || length > NAME_BYTES {
+        return None;
+    }
+    if get16(record, 2) != 0 {
+        return None;
+    }
+    let (name, padding) = record[4..52].split_at(length);
+    if padding.iter().any(|&byte| byte != 0) {
+        return None;
+    }
+    let held = get32(record, 52);
+    let meaning = match record[0] {
+        0 => Meaning::Value(held),
+        1 if u64::from(held) < number as u64 => Meaning::Alias(held as usize),
+        _ => return None,
+    };
+    Some(Symbol { name: name.to_vec(), meaning })
+}
+
+/// "Up to 256 symbols are lent as 56-byte records, numbered from 0 ... Names, told apart by length and bytes, are unique." None: "any other table".
+pub fn symbol_table(bytes: &[u8]) -> Option<Vec<Symbol>> {
+    if bytes.len() % SYMBOL_BYTES != 0 || bytes.len() / SYMBOL_BYTES > SYMBOLS_MOST {
+        return None;
+    }
+    let mut table = vec![];
+    let mut names = std::collections::HashSet::new();
+    for (number, record) in bytes.chunks(SYMBOL_BYTES).enumerate() {
+        let symbol = symbol_of(record, number)?;
+        if !names.insert(symbol.name.clone()) {
+            return None;
+        }
+        table.push(symbol);
+    }
+    Some(table)
+}
+
+/// "Kind 1, an alias, holds the number of a lower-numbered record and is resolved through it."
+fn value_of(table: &[Symbol], number: usize) -> u32 {
+    match table[number].meaning {
+        Meaning::Value(value) => value,
+        Meaning::Alias(other) => value_of(table, other),
+    }
+}
+
+/// The value that a name stands for. None: "an unknown name". The size is 1 to 48.
+pub fn look_up(table: &[Symbol], name: &Name) -> Option<u32> {
+    let wanted = &name.bytes[..name.size as usize];
+    let number = table.iter().position(|symbol| symbol.name == wanted)?;
+    Some(value_of(table, number))
+}
+
+/// Value plus offset as a whole number. None: "an address below 0 or at 2^32 and up".
+fn address_by_name(value: u32, offset: i32) -> Option<Address> {
+    let sum = i64::from(value) + i64::from(offset);
+    if sum < 0 || sum >= 1 << 32 {
+        return None;
+    }
+    Some(Address(sum as u32))
 }
 
 // ------------------------------------------------------------------------------------------------------------------------------------
@@ -460,11 +594,11 @@ pub struct CommandAnswer {
 }
 
 /// "Numbers 1, 2, 3, 5, 8 and 16 return the state as handed in. Numbers 4, 6, 7 and 9 to 15, given to a command, add one to the refused
-/// count and change no other part of the state."
+/// count and change no other part of the state." "18 and this 17 count as refused."
 fn refused(state: &State, number: u32) -> CommandAnswer {
     let mut after = state.clone();
     match number {
-        4 | 6 | 7 | 9..=15 => after.refused = (state.refused + 1) % 65_536,
+        4 | 6 | 7 | 9..=15 | 17 | 18 => after.refused = (state.refused + 1) % 65_536,
         _ => {}
     }
     CommandAnswer { number, state: after, reply_length: 0 }
@@ -476,8 +610,8 @@ fn accepted(mut after: State, reply_length: u32) -> CommandAnswer {
     CommandAnswer { number: 0, state: after, reply_length }
 }
 
-/// The command call.
-pub fn command_call(state: &State, packet: &[u8], image: &mut [u32], reply: &mut [u8]) -> CommandAnswer {
+/// The command call. Only codes 8 and 9 look at the symbol table.
+pub fn command_call(state: &State, packet: &[u8], symbols: &[u8], image: &mut [u32], reply: &mut [u8]) -> CommandAnswer {
     if !state_is_good(state) {
         return refused(state, 1);
     }
@@ -495,6 +629,9 @@ pub fn command_call(state: &State, packet: &[u8], image: &mut [u32], reply: &mut
     if fields.unit != state.setup.unit {
         return refused(state, 8);
     }
+    if let Command::SymbolValue { name } | Command::DumpByName { name, .. } = &fields.command {
+        return command_by_name(state, &fields, name, padding_is_wrong(packet), symbols, reply);
+    }
     if fields_break_bounds(&fields.command) {
         return refused(state, 9);
     }
@@ -503,7 +640,35 @@ pub fn command_call(state: &State, packet: &[u8], image: &mut [u32], reply: &mut
         Command::Cancel => do_cancel(state, fields.transaction),
         Command::Load { size, address, data } => do_load(state, size, address, &data, image),
         Command::PoolStatistics { pool } => do_pool_statistics(state, fields.transaction, pool, image, reply),
+        Command::SymbolValue { .. } | Command::DumpByName { .. } => unreachable!("done above"),
     }
+}
+
+/// Codes 8 and 9 after number 8: "Any other table is 17 ..., tested right after 8. Next, name length 0 or over 48, or nonzero pad or zero bits outside
+/// the name, is 9; next, an unknown name is new number 18; then an address below 0 or at 2^32 and up is 9, and the dump's tests of 9 to 13 follow."
+fn command_by_name(state: &State, fields: &Fields, name: &Name, wrong_padding: bool, symbols: &[u8], reply: &mut [u8]) -> CommandAnswer {
+    let table = match symbol_table(symbols) {
+        None => return refused(state, 17),
+        Some(table) => table,
+    };
+    if name_size_is_wrong(name) || wrong_padding {
+        return refused(state, 9);
+    }
+    let value = match look_up(&table, name) {
+        None => return refused(state, 18),
+        Some(value) => value,
+    };
+    let Command::DumpByName { offset, size, .. } = fields.command else {
+        return do_symbol_value(state, fields.transaction, value, reply);
+    };
+    let address = match address_by_name(value, offset) {
+        None => return refused(state, 9),
+        Some(address) => address,
+    };
+    if !aligned(address) || dump_size_is_wrong(size) {
+        return refused(state, 9);
+    }
+    do_dump(state, fields.transaction, size, address)
 }
 
 // ------------------------------------------------------------------------------------------------------------------------------------
@@ -629,6 +794,16 @@ fn do_pool_statistics(state: &State, transaction: u32, number: u32, image: &[u32
     accepted(after, REPLY_BYTES as u32)
 }
 
+/// The value of a symbol: "a 12-byte reply, APID 786: header like 785's with its own count, unit and transaction, value".
+fn do_symbol_value(state: &State, transaction: u32, value: u32, reply: &mut [u8]) -> CommandAnswer {
+    put_primary_header(reply, 0, 0, APID_SYMBOL, state.count_786, VALUE_BYTES);
+    put16(reply, 6, state.setup.unit * 4_096 + transaction);
+    put32(reply, 8, value);
+    let mut after = state.clone();
+    after.count_786 = (state.count_786 + 1) % 16_384;
+    accepted(after, VALUE_BYTES as u32)
+}
+
 // ------------------------------------------------------------------------------------------------------------------------------------
 // Request A1: "Many commands in one call"
 // ------------------------------------------------------------------------------------------------------------------------------------
@@ -663,14 +838,22 @@ pub fn item_packet(bytes: &[u8], start: u32, length: u32) -> &[u8] {
 }
 
 /// "It equals the single calls made in order, refused ones included." "The reply buffer has 32 bytes per item, in the items' order". The call is
-/// not refused; its number is 0.
-pub fn batch_call(state: &State, bytes: &[u8], starts: &[u32], lengths: &[u32], image: &mut [u32], replies: &mut [u8]) -> BatchAnswer {
+/// not refused; its number is 0. By A2 one symbol table is lent for all items.
+pub fn batch_call(
+    state: &State,
+    bytes: &[u8],
+    starts: &[u32],
+    lengths: &[u32],
+    symbols: &[u8],
+    image: &mut [u32],
+    replies: &mut [u8],
+) -> BatchAnswer {
     let mut after = state.clone();
     let mut answers = vec![];
     for i in 0..starts.len() {
         let packet = item_packet(bytes, starts[i], lengths[i]);
         let reply = &mut replies[REPLY_BYTES * i..REPLY_BYTES * (i + 1)];
-        let answer = command_call(&after, packet, image, reply);
+        let answer = command_call(&after, packet, symbols, image, reply);
         answers.push(ItemAnswer { number: answer.number, reply_length: answer.reply_length });
         after = answer.state;
     }
@@ -787,25 +970,42 @@ pub fn write_command(fields: &Fields, buffer: &mut [u8]) -> Result<usize, u32> {
             }
         }
         Command::PoolStatistics { pool } => put16(packet, 10, *pool),
+        Command::SymbolValue { name } => put_name(packet, name),
+        Command::DumpByName { name, offset, size } => {
+            put_name(packet, name);
+            put32(packet, 60, *offset as u32);
+            put16(packet, 64, *size);
+            put16(packet, 66, 0);
+        }
     }
     packet[7] = 0xFF ^ exclusive_or(packet);
     Ok(length)
 }
 
-/// The command reader: "answers 4, 5, 6, 7, 9 or the fields". Data words of a load beyond its size are ignored: given as 0.
+/// Name size, a zero pad, and the name; "name bytes past the length go as unused load words do".
+fn put_name(packet: &mut [u8], name: &Name) {
+    packet[10] = name.size as u8;
+    packet[11] = 0;
+    for k in 0..NAME_BYTES {
+        packet[12 + k] = if k < name.size as usize { name.bytes[k] } else { 0 };
+    }
+}
+
+/// The command reader: "answers 4, 5, 6, 7, 9 or the fields". Data words of a load beyond its size are ignored: given as 0; and so are the bytes
+/// beyond a name.
 pub fn read_command(packet: &[u8]) -> Result<Fields, u32> {
     let number = frame_number(packet);
     if number != 0 {
         return Err(number);
     }
     let mut fields = fields_of(packet);
-    if fields_break_bounds(&fields.command) {
+    if fields_break_bounds(&fields.command) || padding_is_wrong(packet) {
         return Err(9);
     }
-    if let Command::Load { size, data, .. } = &mut fields.command {
-        for k in *size as usize..LOAD_WORDS {
-            data[k] = 0;
-        }
+    match &mut fields.command {
+        Command::Load { size, data, .. } => data[*size as usize..].fill(0),
+        Command::SymbolValue { name } | Command::DumpByName { name, .. } => name.bytes[name.size as usize..].fill(0),
+        _ => {}
     }
     Ok(fields)
 }

@@ -39,9 +39,9 @@ returns : tie.Need-returns
 returns c =
     let b = c .before .before .before .before .before .before .before .before in
     let l = b .before .before .before .before .before in
-    let a = l .before .before .before .before .before .before .args in
+    let a = l .before .before .before .before .before .before .before .args in
     given (a .records) (l .lesser .ensures) (replicate 64 0) refl onState (a .s)
-    (lends (a .bytes .now) (a .starts .now) (a .lengths .now) (a .image .now) (a .replies .now)) (b .batch-numbers .ensures) _
+    (lends (a .bytes .now) (a .starts .now) (a .lengths .now) (a .symbols .now) (a .image .now) (a .replies .now)) (b .batch-numbers .ensures) _
     (c .before .verdict-number .ensures) (c .if1 .taken) refl
 
 same-length-3 : tie.Need-same-length-3
@@ -54,9 +54,9 @@ returns-2 : tie.Need-returns-2
 returns-2 c =
     let b = c .before .before .before .before .before .before .before .before in
     let l = b .before .before .before .before .before in
-    let a = l .before .before .before .before .before .before .args in
+    let a = l .before .before .before .before .before .before .before .args in
     not-given (a .records) (l .lesser .ensures) (replicate 64 0) refl onState (a .s)
-    (lends (a .bytes .now) (a .starts .now) (a .lengths .now) (a .image .now) (a .replies .now)) (b .batch-numbers .ensures) _
+    (lends (a .bytes .now) (a .starts .now) (a .lengths .now) (a .symbols .now) (a .image .now) (a .replies .now)) (b .batch-numbers .ensures) _
     (c .before .verdict-number .ensures) (c .if1 .left) refl
 
 pub answered-spec : {M : Type 1} → statement M

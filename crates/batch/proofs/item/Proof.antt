@@ -61,11 +61,11 @@ same-length-4 c = search needs
 returns : tie.Need-returns
 returns c =
     let k = c .before .before .before .before .before .before .before in
-    let start = k .before .before .before .before .before .before .before .before in
+    let start = k .before .before .before .before .before .before .before .before .before in
     let a = start .args in
     let n : 32 * (a .i) + 32 - 32 * (a .i) ≡ 32 = omega arith in
-    item-done onState (a .s) (a .packet .now) (a .image .now) (a .replies .now) (a .i) (within (a .s) _) (a .numbers .now) (a .sizes .now) (start .pre .0) n
-    (called (a .s) _ (k .command .ensures) (c .before .before .answer-number .ensures) (c .before .answer-length .ensures))
+    item-done onState (a .s) (a .packet .now) (a .symbols .now) (a .image .now) (a .replies .now) (a .i) (within (a .s) _) (a .numbers .now) (a .sizes .now) (start .pre .0) n
+    (called (a .s) (record { packet = a .packet .now; symbols = a .symbols .now; image = a .image .now; reply = _ }) (k .command .ensures) (c .before .before .answer-number .ensures) (c .before .answer-length .ensures))
 
 pub item-spec : {M : Type 1} → statement M
 item-spec =

@@ -12,19 +12,19 @@ use Rattle.batch.proofs.run.Statement.{statement}
 use Rattle.batch.proofs.run.Tie as tie
 
 abbrev Inv-loop : tie.InvT-loop
-Inv-loop bytes starts lengths image₀ replies₀ numbers₀ sizes₀ state₀ i₀ image replies numbers sizes state i =
-    Upto onState (lends bytes starts lengths image₀ replies₀) numbers₀ sizes₀ state₀ i state image replies numbers sizes
+Inv-loop bytes starts lengths symbols image₀ replies₀ numbers₀ sizes₀ state₀ i₀ image replies numbers sizes state i =
+    Upto onState (lends bytes starts lengths symbols image₀ replies₀) numbers₀ sizes₀ state₀ i state image replies numbers sizes
 
 abbrev μ-loop : tie.MeasureT-loop
-μ-loop bytes starts lengths image₀ replies₀ numbers₀ sizes₀ state₀ i₀ image replies numbers sizes state i =
+μ-loop bytes starts lengths symbols image₀ replies₀ numbers₀ sizes₀ state₀ i₀ image replies numbers sizes state i =
     length starts - i
 
 -- the function's entry, what it was lent, and that all of it fits
 abbrev start : tie.In-loop Inv-loop μ-loop → tie.Start Inv-loop μ-loop
-start c = c .before .before .before .before .before .before .before .before .before
+start c = c .before .before .before .before .before .before .before .before .before .before
 
 abbrev lent : tie.Start Inv-loop μ-loop → BatchArgs
-lent c = lends (c .args .bytes .now) (c .args .starts .now) (c .args .lengths .now) (c .args .image .now) (c .args .replies .now)
+lent c = lends (c .args .bytes .now) (c .args .starts .now) (c .args .lengths .now) (c .args .symbols .now) (c .args .image .now) (c .args .replies .now)
 
 fit : (c : tie.Start Inv-loop μ-loop) → Fits (lent c) (min (length (c .args .numbers .now)) (length (c .args .sizes .now)))
 fit c = fits (lent c) _ (c .pre)
@@ -35,7 +35,7 @@ test c = c .before .before .before .before .before .before .before .before .befo
 
 loop-holds : tie.Need-loop-holds Inv-loop μ-loop
 loop-holds c =
-    let start = c .before .before .before .before .before .before .before in
+    let start = c .before .before .before .before .before .before .before .before in
     starts onState (lent start) (start .args .numbers .now) (start .args .sizes .now) (start .args .s)
 
 mul-bytes-from : tie.Need-mul-bytes-from Inv-loop μ-loop
@@ -73,7 +73,7 @@ loop-again c =
     let t = test c in
     let a = start t .args in
     turn onState (lent (start t)) (a .numbers .now) (a .sizes .now) (a .s) (t .before .loop .inv) (fit (start t)) (t .loop-test .taken) packet
-    (k .ensures) (k .kept .1 .1 .0) (k .kept .1 .1 .1 .0) (k .kept .1 .1 .1 .1 .0) (k .kept .1 .1 .1 .1 .1 .0)
+    (k .ensures) (k .kept .1 .1 .1 .0) (k .kept .1 .1 .1 .1 .0) (k .kept .1 .1 .1 .1 .1 .0) (k .kept .1 .1 .1 .1 .1 .1 .0)
 
 same-length : tie.Need-same-length Inv-loop μ-loop
 same-length c = c .before .loop .inv .image-long
@@ -90,7 +90,7 @@ same-length-4 c = c .before .loop .inv .sizes-long
 returns : tie.Need-returns Inv-loop μ-loop
 returns c =
     let l = c .before .loop in
-    let start = c .before .before .before .before .before .before .before .before .before in
+    let start = c .before .before .before .before .before .before .before .before .before .before in
     let a = start .args in
     let e : l .i ≡ length (a .starts .now) = omega (arith, l .inv .inside, c .loop-test .left) in
     all onState (lent start) (a .numbers .now) (a .sizes .now) (a .s) (l .inv) e

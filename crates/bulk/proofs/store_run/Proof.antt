@@ -6,17 +6,18 @@ use native.Mathlib.Omega.{arith}
 use lib.ListN.{length, take, getD}
 use Rattle.lists.specs.Splice.{splice}
 use Rattle.lists.proofs.Runs.{splice-none, copy-turn}
+use Rattle.wire.specs.Bytes.{wordsAt}
 use Rattle.wire.proofs.Words.{words-at-length, words-at-word}
-use Rattle.rules.specs.Packets.{dataWords}
+use Rattle.bulk.proofs.Words.{first-words}
 use borrow.Author.Needs.{needs}
 use Rattle.bulk.proofs.store_run.Statement.{statement}
 use Rattle.bulk.proofs.store_run.Tie as tie
 
 abbrev Inv-loop : tie.InvT-loop
-Inv-loop words₀ from packet n i₀ words i = (i ≤ n) × (words ≡ splice words₀ from (take i (dataWords packet))) × (length words ≡ length words₀)
+Inv-loop words₀ from packet at n i₀ words i = (i ≤ n) × (words ≡ splice words₀ from (take i (wordsAt n packet at))) × (length words ≡ length words₀)
 
 abbrev μ-loop : tie.MeasureT-loop
-μ-loop words₀ from packet n i₀ words i = n - i
+μ-loop words₀ from packet at n i₀ words i = n - i
 
 loop-holds : tie.Need-loop-holds Inv-loop μ-loop
 loop-holds c = (search needs, sym (splice-none _ _), search needs)
@@ -48,21 +49,21 @@ loop-less c = search needs
 loop-again : tie.Need-loop-again Inv-loop μ-loop
 loop-again c =
     let at-loop = c .before .before in
-    let start = at-loop .before .before .before in
+    let a = at-loop .before .before .before .args in
     let i = at-loop .loop .i in
-    let p = start .args .packet .now in
-    let k : i < length (dataWords p) = omega (arith, words-at-length 11 p 16) in
-    let w : c .word-at .result ≡ getD (dataWords p) i 0 = c .word-at .ensures ∙ sym (words-at-word 11 p 16 i (omega arith)) in
-    (search needs, rw w (copy-turn (start .args .words .now) (at-loop .loop .words) (dataWords p) (start .args .from) i k (omega arith) (at-loop .loop .inv .1)), search needs)
+    let ws = wordsAt (a .n) (a .packet .now) (a .at) in
+    let k : i < length ws = omega (arith, words-at-length (a .n) (a .packet .now) (a .at)) in
+    let w : c .word-at .result ≡ getD ws i 0 = c .word-at .ensures ∙ sym (words-at-word (a .n) _ _ i (omega arith)) in
+    (search needs, rw w (copy-turn (a .words .now) (at-loop .loop .words) ws (a .from) i k (omega arith) (at-loop .loop .inv .1)), search needs)
 
 same-length : tie.Need-same-length Inv-loop μ-loop
 same-length c = search needs
 
 returns : tie.Need-returns Inv-loop μ-loop
 returns c =
-    let start = c .before .before .before .before in
-    let n : c .before .loop .i ≡ start .args .n = omega arith in
-    rw n at (c .before .loop .inv .1)
+    let a = c .before .before .before .before .args in
+    let n : c .before .loop .i ≡ a .n = omega arith in
+    rw (n, first-words (a .n) (a .n) (a .packet .now) (a .at) (omega arith)) at (c .before .loop .inv .1)
 
 pub store-run-spec : {M : Type 1} → statement M
 store-run-spec =

@@ -3,6 +3,7 @@
 use mathlib.Core.Path.{refl}
 use native.Mathlib.Omega.{arith}
 use borrow.Author.Tests.{not-true, not-false}
+use Rattle.bulk.proofs.Words.{first-words}
 use borrow.Author.Needs.{needs}
 use Rattle.bulk.proofs.store_words.Statement.{statement}
 use Rattle.bulk.proofs.store_words.Tie as tie
@@ -24,8 +25,11 @@ same-length c = search needs
 
 returns-3 : tie.Need-returns-3
 returns-3 c =
-    let at-test = c .before .before .before .before in
-    (λ h k. search needs, λ n. absurd (n (omega arith) (at-test .before .has-words .ensures .0 (not-false _ (at-test .if2 .left)))))
+    let run = c .before .before in
+    let at-test = run .before .before in (
+      λ h k. rw first-words (run .store-run .ensures),
+      λ n. absurd (n (omega arith) (at-test .before .has-words .ensures .0 (not-false _ (at-test .if2 .left)))),
+    )
 
 pub store-words-spec : {M : Type 1} → statement M
 store-words-spec =

@@ -44,11 +44,28 @@ part-put-beside-end c = search needs
 put-beside-requires : tie.Need-put-beside-requires
 put-beside-requires c κs = search needs
 
+tail-words-requires : tie.Need-tail-words-requires
+tail-words-requires c κs = search needs
+
+slice-aggregate-put-run-2 : tie.Need-slice-aggregate-put-run-2
+slice-aggregate-put-run-2 c = search needs
+
+put-run-requires-2 : tie.Need-put-run-requires-2
+put-run-requires-2 c κs = search needs
+
 same-length : tie.Need-same-length
 same-length c = search needs
 
 returns-3 : tie.Need-returns-3
-returns-3 c = command-done _ _ (c .before .before .before .before .before .before .before .before .before .before .before .before .before .before .if1 .left) _ (c .before .before .before .before .before .before .before .before .before .before .before .before .before .reading-of .ensures) _ (c .before .before .before .before .before .before .before .before .before .before .before .reading2 .given .1) _ (c .before .before .before .before .before .before .before .before .before .head-words .ensures) _ (c .before .before .before .before .before .before .put-run .ensures .0) _ (c .before .before .put-beside .ensures .0)
+returns-3 c =
+    let at-tail-put = c .before .before in
+    let at-tail = at-tail-put .before .before .before in
+    let at-beside = at-tail .before .before .before in
+    let at-head-put = at-beside .before .before .before .before in
+    let at-head = at-head-put .before .before .before in
+    let at-reading = at-head .before .before in
+    let at-read = at-reading .before .before in
+    command-done _ _ (at-read .before .if1 .left) _ (at-read .reading-of .ensures) _ (at-reading .reading2 .given .1) _ (at-head .head-words .ensures) _ (at-head-put .put-run .ensures .0) _ (at-beside .put-beside .ensures .0) _ (at-tail .tail-words .ensures) _ (at-tail-put .put-run2 .ensures .0)
 
 pub lg-read-command-spec : {M : Type 1} → statement M
 lg-read-command-spec =
@@ -67,5 +84,8 @@ lg-read-command-spec =
     part-put-beside-start
     part-put-beside-end
     put-beside-requires
+    tail-words-requires
+    slice-aggregate-put-run-2
+    put-run-requires-2
     same-length
     returns-3)

@@ -40,6 +40,15 @@ raised-requires-3 c κs = search needs
 raised-requires-4 : tie.Need-raised-requires-4
 raised-requires-4 c κs = search needs
 
+enum-told-3 : tie.Need-enum-told-3
+enum-told-3 c = search needs
+
+raised-requires-5 : tie.Need-raised-requires-5
+raised-requires-5 c κs = search needs
+
+raised-requires-6 : tie.Need-raised-requires-6
+raised-requires-6 c κs = search needs
+
 returns : tie.Need-returns
 returns c = rw (c .before .before .before .before .d .given .1, ← c .before .before .is-counted .ensures, c .before .if1 .taken, c .raised .ensures)
 
@@ -58,6 +67,9 @@ returns-5 c = rw (c .before .enum-told .given .1, c .raised2 .ensures)
 returns-6 : tie.Need-returns-6
 returns-6 c = rw (c .before .before .enum-told2 .given .1, c .before .raised3 .ensures, c .raised4 .ensures)
 
+returns-7 : tie.Need-returns-7
+returns-7 c = rw (c .before .before .enum-told3 .given .1, c .before .raised5 .ensures, c .raised6 .ensures)
+
 pub applied-spec : {M : Type 1} → statement M
 applied-spec =
     tie.close
@@ -74,9 +86,13 @@ applied-spec =
     enum-told-2
     raised-requires-3
     raised-requires-4
+    enum-told-3
+    raised-requires-5
+    raised-requires-6
     returns
     returns-2
     returns-3
     returns-4
     returns-5
-    returns-6)
+    returns-6
+    returns-7)

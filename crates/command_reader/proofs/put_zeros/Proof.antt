@@ -2,7 +2,7 @@
 -- Assumes nothing.
 use borrow.Author.Needs.{needs}
 use mathlib.Core.Path.{_≡_, sym, ap, _∙_}
-use Prim.Native.Nat.{ℕ, _≤_, _-_}
+use Prim.Native.Nat.{_≤_, _-_}
 use native.Mathlib.Nat.{zero-add}
 use native.Mathlib.Omega.{arith}
 use lib.ListN.{length, take, set}
@@ -14,10 +14,10 @@ use Rattle.command_reader.proofs.put_zeros.Statement.{statement}
 use Rattle.command_reader.proofs.put_zeros.Tie as tie
 
 abbrev Inv-loop : tie.InvT-loop
-Inv-loop words₀ i₀ words i = (i ≤ 11) × (words ≡ splice words₀ 0 (take i noWords)) × (length words ≡ length words₀)
+Inv-loop words₀ i₀ words i = (i ≤ 12) × (words ≡ splice words₀ 0 (take i noWords)) × (length words ≡ length words₀)
 
 abbrev μ-loop : tie.MeasureT-loop
-μ-loop words₀ i₀ words i = 11 - i
+μ-loop words₀ i₀ words i = 12 - i
 
 loop-holds : tie.Need-loop-holds Inv-loop μ-loop
 loop-holds c = (search needs, sym (splice-none _ _), search needs)
@@ -40,7 +40,7 @@ loop-again c =
     let start = l .before in
     let i = l .loop .i in
     let turn = rw zero-add at (copy-turn (start .args .words .now) (l .loop .words) noWords 0 i (omega arith) (omega (arith, start .pre)) (l .loop .inv .1)) in
-    (search needs, ap (set (l .loop .words) i) (sym (zeros-at 11 i)) ∙ turn, search needs)
+    (search needs, ap (set (l .loop .words) i) (sym (zeros-at 12 i)) ∙ turn, search needs)
 
 same-length : tie.Need-same-length Inv-loop μ-loop
 same-length c = search needs
@@ -48,7 +48,7 @@ same-length c = search needs
 returns : tie.Need-returns Inv-loop μ-loop
 returns c =
     let l = c .before in
-    let e : l .loop .i ≡ 11 = omega arith in
+    let e : l .loop .i ≡ 12 = omega arith in
     rw e at (l .loop .inv .1)
 
 pub put-zeros-spec : {M : Type 1} → statement M

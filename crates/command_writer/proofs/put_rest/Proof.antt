@@ -55,6 +55,26 @@ put-pool-requires c κs =
     let e = ap packetLength (told .k3 .given .1) in
     (start .pre .0, omega (arith, start .pre .1))
 
+enum-known-k-4 : tie.Need-enum-known-k-4
+enum-known-k-4 c = search needs
+
+put-name-requires : tie.Need-put-name-requires
+put-name-requires c κs =
+    let told = c .before .before in
+    let start = told .before .before .before .before in
+    let e = ap packetLength (told .k4 .given .1) in
+    (start .pre .0, omega (arith, start .pre .1))
+
+enum-known-k-5 : tie.Need-enum-known-k-5
+enum-known-k-5 c = search needs
+
+put-symbol-request-requires : tie.Need-put-symbol-request-requires
+put-symbol-request-requires c κs =
+    let told = c .before .before in
+    let start = told .before .before .before .before in
+    let e = ap packetLength (told .k5 .given .1) in
+    (start .pre .0, omega (arith, start .pre .1))
+
 same-length : tie.Need-same-length
 same-length c = search needs
 
@@ -89,6 +109,18 @@ same-length-4 c = search needs
 returns-4 : tie.Need-returns-4
 returns-4 c = rw (c .before .before .before .before .before .k3 .given .1) (c .before .before .put-pool .ensures)
 
+same-length-5 : tie.Need-same-length-5
+same-length-5 c = search needs
+
+returns-5 : tie.Need-returns-5
+returns-5 c = rw (c .before .before .before .before .before .k4 .given .1) (c .before .before .put-name .ensures)
+
+same-length-6 : tie.Need-same-length-6
+same-length-6 c = search needs
+
+returns-6 : tie.Need-returns-6
+returns-6 c = rw (c .before .before .before .before .before .k5 .given .1) (c .before .before .put-symbol-request .ensures)
+
 pub put-rest-spec : {M : Type 1} → statement M
 put-rest-spec =
     tie.close
@@ -102,6 +134,10 @@ put-rest-spec =
     put-data-requires
     enum-known-k-3
     put-pool-requires
+    enum-known-k-4
+    put-name-requires
+    enum-known-k-5
+    put-symbol-request-requires
     same-length
     returns
     same-length-2
@@ -109,4 +145,8 @@ put-rest-spec =
     same-length-3
     returns-3
     same-length-4
-    returns-4)
+    returns-4
+    same-length-5
+    returns-5
+    same-length-6
+    returns-6)

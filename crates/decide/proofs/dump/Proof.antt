@@ -29,27 +29,16 @@ returns-3 c =
     let right = not-false (at-found .found2 .given .0 .0 .dump) (c .before .before .if1 .left) in
     rw (at-found .found2 .given .1, right, le-ltb _ _ (c .before .if2 .left), le-leb _ _ (c .if3 .taken))
 
-range-of-requires : tie.Need-range-of-requires
-range-of-requires c κs = search needs
-
 returns-4 : tie.Need-returns-4
 returns-4 c = rw (c .before .found .given .1)
 
 returns-5 : tie.Need-returns-5
 returns-5 c =
-    let at-found = c .before .before .before .before .before .before in
-    let right = not-false (at-found .found2 .given .0 .0 .dump) (c .before .before .before .if1 .left) in
-    rw (at-found .found2 .given .1, right, le-ltb _ _ (c .before .before .if2 .left), lt-leb _ _ (c .before .if3 .left), c .range-of .ensures)
+    let at-found = c .before .before .before .before .before in
+    let right = not-false (at-found .found2 .given .0 .0 .dump) (c .before .before .if1 .left) in
+    rw (at-found .found2 .given .1, right, le-ltb _ _ (c .before .if2 .left), lt-leb _ _ (c .if3 .left))
 
 pub dump-spec : {M : Type 1} → statement M
 dump-spec =
     tie.close
-    (tie.spec
-    enum-known-found
-    enum-known-found-2
-    returns
-    returns-2
-    returns-3
-    range-of-requires
-    returns-4
-    returns-5)
+    (tie.spec enum-known-found enum-known-found-2 returns returns-2 returns-3 returns-4 returns-5)

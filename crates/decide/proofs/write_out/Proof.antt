@@ -26,6 +26,12 @@ enum-known-d-2 c = search needs
 put-reply-requires : tie.Need-put-reply-requires
 put-reply-requires c κs = search needs
 
+enum-known-d-3 : tie.Need-enum-known-d-3
+enum-known-d-3 c = search needs
+
+put-value-requires : tie.Need-put-value-requires
+put-value-requires c κs = search needs
+
 returns : tie.Need-returns
 returns c = search needs
 
@@ -45,7 +51,13 @@ same-length-2 : tie.Need-same-length-2
 same-length-2 c = search needs
 
 returns-5 : tie.Need-returns-5
-returns-5 c = (rw (c .before .before .before .before .before .before .before .d2 .given .1), rw (c .before .before .before .before .before .before .before .d2 .given .1) (reply-put _ _ (c .before .before .put-reply .ensures)))
+returns-5 c = (rw (c .before .before .before .before .before .before .before .d2 .given .1), rw (c .before .before .before .before .before .before .before .d2 .given .1) (reply-put _ _ _ (c .before .before .put-reply .ensures)))
+
+same-length-3 : tie.Need-same-length-3
+same-length-3 c = search needs
+
+returns-6 : tie.Need-returns-6
+returns-6 c = (rw (c .before .before .before .before .before .before .d3 .given .1), rw (c .before .before .before .before .before .before .d3 .given .1) (reply-put _ _ _ (c .before .before .put-value .ensures)))
 
 pub write-out-spec : {M : Type 1} → statement M
 write-out-spec =
@@ -58,12 +70,16 @@ write-out-spec =
     store-words-requires
     enum-known-d-2
     put-reply-requires
+    enum-known-d-3
+    put-value-requires
     returns
     returns-2
     returns-3
     same-length
     returns-4
     same-length-2
-    returns-5)
+    returns-5
+    same-length-3
+    returns-6)
 
 -- x

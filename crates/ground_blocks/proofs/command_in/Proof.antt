@@ -21,6 +21,15 @@ word-at-requires-2 c κs = search needs
 at-most-16-requires : tie.Need-at-most-16-requires
 at-most-16-requires c κs = search needs
 
+word-at-requires-3 : tie.Need-word-at-requires-3
+word-at-requires-3 c κs = search needs
+
+at-most-8-requires : tie.Need-at-most-8-requires
+at-most-8-requires c κs = search needs
+
+symbol-request-in-requires : tie.Need-symbol-request-in-requires
+symbol-request-in-requires c κs = search needs
+
 returns : tie.Need-returns
 unfolding commandIn
 returns c = rw (← c .before .before .word-at .ensures, c .before .match .keys1, c .request-in .ensures)
@@ -39,10 +48,18 @@ returns-4 c = rw (← c .before .before .before .word-at .ensures, c .before .be
 
 returns-5 : tie.Need-returns-5
 unfolding commandIn
-returns-5 c =
+returns-5 c = rw (← c .before .before .before .word-at .ensures, c .before .before .match .keys5, c .at-most-8 .ensures, c .before .word-at3 .ensures)
+
+returns-6 : tie.Need-returns-6
+unfolding commandIn
+returns-6 c = rw (← c .before .before .word-at .ensures, c .before .match .keys6, c .symbol-request-in .ensures)
+
+returns-7 : tie.Need-returns-7
+unfolding commandIn
+returns-7 c =
     let w = c .before .word-at .ensures in
     let r = c .match .rest in
-    rw (← w, ne-eqb _ 0 (r .0 .0 .0 .1), ne-eqb _ 1 (r .0 .0 .1), ne-eqb _ 4 (r .0 .1), ne-eqb _ 7 (r .1))
+    rw (← w, ne-eqb _ 0 (r .0 .0 .0 .0 .0 .1), ne-eqb _ 1 (r .0 .0 .0 .0 .1), ne-eqb _ 4 (r .0 .0 .0 .1), ne-eqb _ 7 (r .0 .0 .1), ne-eqb _ 8 (r .0 .1), ne-eqb _ 9 (r .1))
 
 pub command-in-spec : {M : Type 1} → statement M
 command-in-spec =
@@ -53,8 +70,13 @@ command-in-spec =
     request-in-requires-2
     word-at-requires-2
     at-most-16-requires
+    word-at-requires-3
+    at-most-8-requires
+    symbol-request-in-requires
     returns
     returns-2
     returns-3
     returns-4
-    returns-5)
+    returns-5
+    returns-6
+    returns-7)

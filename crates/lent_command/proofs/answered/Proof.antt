@@ -44,11 +44,11 @@ returns : tie.Need-returns
 returns c =
     let b = c .before .before .before .before .before .before .before .before .before .before in
     let l = b .before .before .before .before .before .before in
-    let a = l .before .before .before .before .before .before .before .args in
+    let a = l .before .before .before .before .before .before .before .before .args in
     let n = c .before .verdict-number .ensures in
     let g =
     given (a .records) (l .lesser .ensures) (replicate 64 0) refl onBlock (a .b .now)
-    (lends (a .bytes .now) (a .starts .now) (a .lengths .now) (a .image .now) (a .replies .now)) (b .commands .ensures) _
+    (lends (a .bytes .now) (a .starts .now) (a .lengths .now) (a .symbols .now) (a .image .now) (a .replies .now)) (b .commands .ensures) _
     n (c .if1 .taken) refl in
     (n ∙ ap verdictNumber (g .0), g .1, g .2)
 
@@ -65,11 +65,11 @@ returns-2 : tie.Need-returns-2
 returns-2 c =
     let b = c .before .before .before .before .before .before .before .before .before .before in
     let l = b .before .before .before .before .before .before in
-    let a = l .before .before .before .before .before .before .before .args in
+    let a = l .before .before .before .before .before .before .before .before .args in
     let n = c .before .verdict-number .ensures in
     let g =
     not-given (a .records) (l .lesser .ensures) (replicate 64 0) refl onBlock (a .b .now)
-    (lends (a .bytes .now) (a .starts .now) (a .lengths .now) (a .image .now) (a .replies .now)) (b .commands .ensures) _
+    (lends (a .bytes .now) (a .starts .now) (a .lengths .now) (a .symbols .now) (a .image .now) (a .replies .now)) (b .commands .ensures) _
     n (c .if1 .left) refl in
     (n ∙ ap verdictNumber (g .0), g .1, g .2)
 

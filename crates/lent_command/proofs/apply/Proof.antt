@@ -47,6 +47,15 @@ raise-requires-5 c κs = search needs
 raise-requires-6 : tie.Need-raise-requires-6
 raise-requires-6 c κs = search needs
 
+enum-told-3 : tie.Need-enum-told-3
+enum-told-3 c = search needs
+
+raise-requires-7 : tie.Need-raise-requires-7
+raise-requires-7 c κs = search needs
+
+raise-requires-8 : tie.Need-raise-requires-8
+raise-requires-8 c κs = search needs
+
 same-length : tie.Need-same-length
 same-length c = search needs
 
@@ -84,6 +93,12 @@ same-length-5 c = search needs
 returns-6 : tie.Need-returns-6
 returns-6 c = rw (c .before .before .before .before .before .before .before .before .enum-told2 .given .1, c .before .before .raise6 .ensures, c .before .before .before .before .before .before .raise5 .ensures)
 
+same-length-6 : tie.Need-same-length-6
+same-length-6 c = search needs
+
+returns-7 : tie.Need-returns-7
+returns-7 c = rw (c .before .before .before .before .before .before .before .before .enum-told3 .given .1, c .before .before .raise8 .ensures, c .before .before .before .before .before .before .raise7 .ensures)
+
 pub apply-spec : {M : Type 1} → statement M
 apply-spec =
     tie.close
@@ -102,6 +117,9 @@ apply-spec =
     enum-told-2
     raise-requires-5
     raise-requires-6
+    enum-told-3
+    raise-requires-7
+    raise-requires-8
     same-length
     returns
     returns-2
@@ -112,4 +130,6 @@ apply-spec =
     same-length-4
     returns-5
     same-length-5
-    returns-6)
+    returns-6
+    same-length-6
+    returns-7)

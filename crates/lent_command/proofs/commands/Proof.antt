@@ -9,10 +9,10 @@ use Rattle.lent_command.proofs.commands.Tie as tie
 
 -- the function's entry, and what it was lent
 abbrev start : tie.After-batch-verdict → tie.Start
-start v = v .before .before .before .before .before .before .before .before .before .before
+start v = v .before .before .before .before .before .before .before .before .before .before .before
 
 abbrev lent : tie.After-batch-verdict → BatchArgs
-lent v = let a = start v .args in lends (a .bytes .now) (a .starts .now) (a .lengths .now) (a .image .now) (a .replies .now)
+lent v = let a = start v .args in lends (a .bytes .now) (a .starts .now) (a .lengths .now) (a .symbols .now) (a .image .now) (a .replies .now)
 
 lesser-requires : tie.Need-lesser-requires
 lesser-requires c κs = search needs

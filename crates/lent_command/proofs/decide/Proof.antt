@@ -1,6 +1,5 @@
 -- `lent_command::decide` meets its contract.
 -- Assumes nothing.
-use mathlib.Core.Path.{sym, _∙_}
 use Prim.Native.Nat.{_%_}
 use lib.ListN.{length}
 use Rattle.lists.proofs.Tests.{and-both}
@@ -16,8 +15,8 @@ word-at-requires c κs = search needs
 cast-unit : tie.Need-cast-unit
 cast-unit c = search needs
 
-opened-requires : tie.Need-opened-requires
-opened-requires c κs = search needs
+opened-by-requires : tie.Need-opened-by-requires
+opened-by-requires c κs = search needs
 
 enum-known-opened : tie.Need-enum-known-opened
 enum-known-opened c = search needs
@@ -25,17 +24,18 @@ enum-known-opened c = search needs
 enum-known-opened-2 : tie.Need-enum-known-opened-2
 enum-known-opened-2 c = search needs
 
-by-command-requires : tie.Need-by-command-requires
-by-command-requires c κs =
-    let s = c .before .before .before .before .before .before .before .before in
-    let some = opened-some (s .args .words) (length (s .args .image .now)) (s .args .reply) (s .args .packet .now) (c .before .before .before .before .word-at .result % 256) (sym (c .before .before .before .opened .ensures) ∙ c .before .opened3 .given .1) in
-    and-both (is-block _ (s .pre) some) (is-good _ (s .pre) some)
+by-task-requires : tie.Need-by-task-requires
+by-task-requires c κs =
+    let s = c .before .before .before .before .before .before .before .before .before in
+    let a = s .args in
+    let some = opened-some (a .words) (length (a .image .now)) (a .reply) (a .packet .now) (a .symbols .now) (c .before .before .before .before .word-at .result % 256) (c .before .before .before .opened-by .ensures) (c .before .opened2 .given .1) in
+    and-both (is-block _ (s .pre .0) some) (is-good _ (s .pre .0) some)
 
 returns : tie.Need-returns
-returns c = λ bytes e. rw (← opened-on _ _ _ (c .before .before .before .before .word-at .ensures), e, ← c .before .before .before .before .before .before .before .before .pre, ← c .before .before .before .opened .ensures, c .before .opened2 .given .1)
+returns c = λ bytes e. rw (← opened-on _ _ _ (c .before .before .before .before .word-at .ensures), e, ← c .before .before .before .before .before .before .before .before .before .pre .0, ← c .before .before .before .opened-by .ensures, c .before .opened .given .1)
 
 returns-2 : tie.Need-returns-2
-returns-2 c = λ bytes e. rw (← opened-on _ _ _ (c .before .before .before .before .before .word-at .ensures), e, ← c .before .before .before .before .before .before .before .before .before .pre, ← c .before .before .before .before .opened .ensures, c .before .before .opened3 .given .1) (c .by-command .ensures)
+returns-2 c = λ bytes e. rw (← opened-on _ _ _ (c .before .before .before .before .before .word-at .ensures), e, ← c .before .before .before .before .before .before .before .before .before .before .pre .0, ← c .before .before .before .before .opened-by .ensures, c .before .before .opened2 .given .1) (c .by-task .ensures)
 
 pub decide-spec : {M : Type 1} → statement M
 decide-spec =
@@ -43,9 +43,9 @@ decide-spec =
     (tie.spec
     word-at-requires
     cast-unit
-    opened-requires
+    opened-by-requires
     enum-known-opened
     enum-known-opened-2
-    by-command-requires
+    by-task-requires
     returns
     returns-2)

@@ -5,12 +5,12 @@ use mathlib.Core.Path.{_≡_, ap, _∙_}
 use Prim.Native.Nat.{_+_, _*_, _-_}
 use native.Mathlib.Omega.{arith}
 use lib.ListN.{take, drop}
-use borrow.Author.Needs.{needs}
 use Rattle.rules.specs.Commands.{CommandArgs}
 use Rattle.batches.proofs.Items.{item-done}
 use Rattle.block.specs.Calls.{goodWords}
 use Rattle.lent_command.specs.Batches.{onBlock}
 use Rattle.lent_command.proofs.Kept.{within, words-kept}
+use borrow.Author.Needs.{needs}
 use Rattle.lent_command.proofs.item.Statement.{statement}
 use Rattle.lent_command.proofs.item.Tie as tie
 
@@ -62,15 +62,15 @@ same-length-5 c = search needs
 returns : tie.Need-returns
 returns c =
     let k = c .before .before .before .before .before .before in
-    let s = k .before .before .before .before .before .before .before .before .before .before .before in
+    let s = k .before .before .before .before .before .before .before .before .before .before .before .before in
     let a = s .args in
     let e = k .tested .ensures in
     let n : 32 * a .i + 32 - 32 * a .i ≡ 32 = omega arith in
-    let lent : CommandArgs = record { packet = a .packet .now; image = a .image .now; reply = take 32 (drop (32 * a .i) (a .replies .now)) } in
+    let lent : CommandArgs = record { packet = a .packet .now; symbols = a .symbols .now; image = a .image .now; reply = take 32 (drop (32 * a .i) (a .replies .now)) } in
     let d =
-    item-done onBlock (a .b .now) (a .packet .now) (a .image .now) (a .replies .now) (a .i) (within (a .b .now) lent) (a .numbers .now) (a .sizes .now) (s .pre .1) n
-    (e .1, e .2, e .3, e .0, e .4) in
-    let kept = words-kept (a .b .now) lent (λ j. c .before .before .before .before .before .before .before .before .before .before .before .before .before .before .before .before .slice-known .given j .fits) (λ j. c .before .before .before .before .before .before .before .before .before .before .before .before .before .before .before .shared-slice-known .given j .fits) in
+    item-done onBlock (a .b .now) (a .packet .now) (a .symbols .now) (a .image .now) (a .replies .now) (a .i) (within (a .b .now) lent) (a .numbers .now) (a .sizes .now)
+    (s .pre .2) n (e .1, e .2, e .3, e .0, e .4) in
+    let kept = words-kept (a .b .now) lent (λ j. c .before .before .before .before .before .before .before .before .before .before .before .before .before .before .before .before .before .slice-known .given j .fits) (λ j. c .before .before .before .before .before .before .before .before .before .before .before .before .before .before .before .before .shared-slice-known .given j .fits) in
     (d .0, d .1, d .2, d .3, d .4, ap goodWords (d .0) ∙ kept)
 
 pub item-spec : {M : Type 1} → statement M

@@ -15,21 +15,21 @@ use Rattle.lent_command.proofs.run.Statement.{statement}
 use Rattle.lent_command.proofs.run.Tie as tie
 
 abbrev Inv-loop : tie.InvT-loop
-Inv-loop b₀ bytes starts lengths image₀ replies₀ numbers₀ sizes₀ words i₀ b image replies numbers sizes i =
-    Upto onBlock (lends bytes starts lengths image₀ replies₀) numbers₀ sizes₀ b₀ i b image replies numbers sizes
+Inv-loop b₀ bytes starts lengths symbols image₀ replies₀ numbers₀ sizes₀ words known i₀ b image replies numbers sizes i =
+    Upto onBlock (lends bytes starts lengths symbols image₀ replies₀) numbers₀ sizes₀ b₀ i b image replies numbers sizes
     × (words ≡ goodWords b)
     × (length b ≡ length b₀)
 
 abbrev μ-loop : tie.MeasureT-loop
-μ-loop b₀ bytes starts lengths image₀ replies₀ numbers₀ sizes₀ words i₀ b image replies numbers sizes i =
+μ-loop b₀ bytes starts lengths symbols image₀ replies₀ numbers₀ sizes₀ words known i₀ b image replies numbers sizes i =
     length starts - i
 
 -- the function's entry, what it was lent, and that all of it fits
 abbrev start : tie.At-loop Inv-loop μ-loop → tie.Start Inv-loop μ-loop
-start c = c .before .before .before .before .before .before .before .before .before .before .before
+start c = c .before .before .before .before .before .before .before .before .before .before .before .before .before
 
 abbrev lent : tie.Start Inv-loop μ-loop → BatchArgs
-lent c = lends (c .args .bytes .now) (c .args .starts .now) (c .args .lengths .now) (c .args .image .now) (c .args .replies .now)
+lent c = lends (c .args .bytes .now) (c .args .starts .now) (c .args .lengths .now) (c .args .symbols .now) (c .args .image .now) (c .args .replies .now)
 
 fit : (c : tie.Start Inv-loop μ-loop) → Fits (lent c) (min (length (c .args .numbers .now)) (length (c .args .sizes .now)))
 fit c = fits (lent c) _ (c .pre)
@@ -41,10 +41,13 @@ test c = c .before .before .before .before .before .before .before .before .befo
 good-words-requires : tie.Need-good-words-requires Inv-loop μ-loop
 good-words-requires c κs = search needs
 
+known-for-requires : tie.Need-known-for-requires Inv-loop μ-loop
+known-for-requires c κs = search needs
+
 loop-holds : tie.Need-loop-holds Inv-loop μ-loop
 loop-holds c =
-    let start = c .before .before .before .before .before .before .before .before .before .before in
-    (starts onBlock (lent start) (start .args .numbers .now) (start .args .sizes .now) (start .args .b .now), c .good-words .ensures, refl)
+    let start = c .before .before .before .before .before .before .before .before .before .before .before .before in
+    (starts onBlock (lent start) (start .args .numbers .now) (start .args .sizes .now) (start .args .b .now), c .before .good-words .ensures, refl)
 
 mul-bytes-from : tie.Need-mul-bytes-from Inv-loop μ-loop
 mul-bytes-from c = search needs
@@ -67,10 +70,10 @@ item-requires c κs =
     let inv = t .before .loop .inv in
     let u = inv .0 in
     let f = fit (start (t .before)) in
-    (inv .1, omega (arith, f .bytes), omega (arith, f .room), omega (arith, f .room))
+    (inv .1, t .before .before .known-for .ensures, omega (arith, f .bytes), omega (arith, f .room), omega (arith, f .room))
 
 add-i : tie.Need-add-i Inv-loop μ-loop
-add-i c = search needs
+add-i c = let t = test c in omega (arith, t .loop-test .taken, fit (start (t .before)) .few)
 
 loop-less : tie.Need-loop-less Inv-loop μ-loop
 loop-less c = search needs
@@ -121,6 +124,7 @@ run-spec =
     Inv-loop
     μ-loop
     good-words-requires
+    known-for-requires
     loop-holds
     mul-bytes-from
     shared-slice-read-bytes-from

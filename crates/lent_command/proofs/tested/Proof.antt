@@ -32,7 +32,7 @@ same-length-3 c = search needs
 
 returns : tie.Need-returns
 returns c =
-    command-left _ (λ i. c .before .before .before .before .before .before .before .before .before .before .before .before .before .before .before .before .before .before .before .before .slice-known .given i .fits) _ _ _ (c .before .before .before .before .before .before .before .before .before .before .before .before .before .before .decide .ensures _ refl) (c .before .before .before .before .before .apply .ensures) (c .before .before .before .before .before .before .before .before .before .before .before .write-out .ensures) (c .before .before .answer-of .ensures) (c .hand-over .ensures)
+    command-left _ (λ i. c .before .before .before .before .before .before .before .before .before .before .before .before .before .before .before .before .before .before .before .before .before .slice-known .given i .fits) _ (c .before .before .before .before .before .before .before .before .before .before .before .before .before .before .decide .ensures _ refl) (c .before .before .before .before .before .apply .ensures) (c .before .before .before .before .before .before .before .before .before .before .before .write-out .ensures) (c .before .before .answer-of .ensures) (c .hand-over .ensures)
 
 pub tested-spec : {M : Type 1} → statement M
 tested-spec =

@@ -17,6 +17,18 @@ enum-known-k-2 c = search needs
 enum-known-k-3 : tie.Need-enum-known-k-3
 enum-known-k-3 c = search needs
 
+enum-known-k-4 : tie.Need-enum-known-k-4
+enum-known-k-4 c = search needs
+
+name-fits-requires : tie.Need-name-fits-requires
+name-fits-requires c κs = search needs
+
+enum-known-k-5 : tie.Need-enum-known-k-5
+enum-known-k-5 c = search needs
+
+name-fits-requires-2 : tie.Need-name-fits-requires-2
+name-fits-requires-2 c κs = search needs
+
 returns : tie.Need-returns
 unfolding fieldRules
 returns c = rw (c .before .before .before .k .given .1)
@@ -33,6 +45,14 @@ returns-4 : tie.Need-returns-4
 unfolding fieldRules
 returns-4 c = rw (c .before .k3 .given .1)
 
+returns-5 : tie.Need-returns-5
+unfolding fieldRules
+returns-5 c = rw (c .before .before .k4 .given .1, c .name-fits .ensures)
+
+returns-6 : tie.Need-returns-6
+unfolding fieldRules
+returns-6 c = rw (c .before .before .before .k5 .given .1, c .before .name-fits2 .ensures)
+
 pub field-rules-spec : {M : Type 1} → statement M
 field-rules-spec =
     tie.close
@@ -41,7 +61,13 @@ field-rules-spec =
     enum-told
     enum-known-k-2
     enum-known-k-3
+    enum-known-k-4
+    name-fits-requires
+    enum-known-k-5
+    name-fits-requires-2
     returns
     returns-2
     returns-3
-    returns-4)
+    returns-4
+    returns-5
+    returns-6)

@@ -2,24 +2,24 @@
 -- Assumes nothing.
 use borrow.Author.Needs.{needs}
 use mathlib.Core.Path.{_≡_, sym, _∙_}
-use Prim.Native.Nat.{_+_, _-_, _≤_}
+use Prim.Native.Nat.{_-_, _≤_}
 use native.Mathlib.Omega.{arith}
 use lib.ListN.{length, drop, getD}
 use Rattle.rules.specs.Pools.{blockOf, blocksFrom, blocksOf}
 use Rattle.pool.specs.Answers.{walkedOf}
-use Rattle.pool.proofs.Blocks.{joined, joined-start, joined-end, joined-zero, joined-out, joined-next, counted-words, counted-blocks}
+use Rattle.pool.proofs.Blocks.{told, told-next, tallied-words, tallied-blocks, joined, joined-start, joined-end, joined-zero, joined-out, joined-next}
 use Rattle.pool.proofs.walk_pool.Statement.{statement}
 use Rattle.pool.proofs.walk_pool.Tie as tie
 
 abbrev Inv-loop : tie.InvT-loop
-Inv-loop pool f₀ at₀ f at =
-    (at ≤ length pool) × (f .free + f .used ≡ at) × (f .freeblocks + f .usedblocks ≤ at) × (joined f (blocksFrom 0 (drop at pool)) ≡ walkedOf (blocksOf pool))
+Inv-loop pool t₀ at₀ t at =
+    (at ≤ length pool) × (t .free ≤ at) × (t .freeblocks ≤ t .blocks) × (t .blocks ≤ at) × (joined (told t at) (blocksFrom 0 (drop at pool)) ≡ walkedOf (blocksOf pool))
 
 abbrev μ-loop : tie.MeasureT-loop
-μ-loop pool f₀ at₀ f at = length pool - at
+μ-loop pool t₀ at₀ t at = length pool - at
 
 loop-holds : tie.Need-loop-holds Inv-loop μ-loop
-loop-holds c = (omega arith, omega arith, omega arith, joined-start (blocksOf (c .before .args .pool .now)))
+loop-holds c = (omega arith, omega arith, omega arith, omega arith, joined-start (blocksOf (c .before .args .pool .now)))
 
 mul-w : tie.Need-mul-w Inv-loop μ-loop
 mul-w c = search needs
@@ -33,7 +33,7 @@ cast-size c = search needs
 returns : tie.Need-returns Inv-loop μ-loop
 returns c =
     let l = c .before .before .before in
-    sym (joined-zero (l .loop .f) (l .before .before .args .pool .now) (l .loop .at) (omega arith) (omega arith)) ∙ l .loop .inv .3
+    sym (joined-zero (told (l .loop .t) (l .loop .at)) (l .before .before .args .pool .now) (l .loop .at) (omega arith) (omega arith)) ∙ l .loop .inv .4
 
 sub-if2 : tie.Need-sub-if2 Inv-loop μ-loop
 sub-if2 c = search needs
@@ -41,8 +41,8 @@ sub-if2 c = search needs
 returns-2 : tie.Need-returns-2 Inv-loop μ-loop
 returns-2 c =
     let l = c .before .before .before .before in
-    sym (joined-out (l .loop .f) (l .before .before .args .pool .now) (l .loop .at) (omega arith) (omega arith) (omega arith))
-    ∙ l .loop .inv .3
+    sym (joined-out (told (l .loop .t) (l .loop .at)) (l .before .before .args .pool .now) (l .loop .at) (omega arith) (omega arith) (omega arith))
+    ∙ l .loop .inv .4
 
 count-block-requires : tie.Need-count-block-requires Inv-loop μ-loop
 count-block-requires c κs = search needs
@@ -57,18 +57,29 @@ loop-again : tie.Need-loop-again Inv-loop μ-loop
 loop-again c =
     let l = c .before .before .before .before .before in
     let pool = l .before .before .args .pool .now in
-    let f = l .loop .f in
+    let t = l .loop .t in
     let at = l .loop .at in
     let b = blockOf (getD pool at 0) in
-    let next = joined-next f pool at (omega arith) (omega arith) (omega arith) in (
+    let words = tallied-words t b at (omega arith) (omega arith) in
+    let blocks = tallied-blocks t b at (omega arith) (omega arith) in
+    let next = joined-next (told t at) pool at (omega arith) (omega arith) (omega arith) in (
       search needs,
-      rw (c .count-block .ensures) (omega (arith, counted-words f b)),
-      rw (c .count-block .ensures) (omega (arith, counted-blocks f b)),
-      rw (c .count-block .ensures) (sym next ∙ l .loop .inv .3),
+      rw (c .count-block .ensures) (omega arith),
+      rw (c .count-block .ensures) (omega arith),
+      rw (c .count-block .ensures) (omega arith),
+      rw (c .count-block .ensures, told-next t b at (omega arith) (omega arith)) (sym next ∙ l .loop .inv .4),
     )
 
+sub-t11 : tie.Need-sub-t11 Inv-loop μ-loop
+sub-t11 c = search needs
+
+sub-t12 : tie.Need-sub-t12 Inv-loop μ-loop
+sub-t12 c = search needs
+
 returns-3 : tie.Need-returns-3 Inv-loop μ-loop
-returns-3 c = let l = c .before in sym (joined-end (l .loop .f) (l .before .before .args .pool .now) (l .loop .at) (omega arith)) ∙ l .loop .inv .3
+returns-3 c =
+    let l = c .before .before .before in
+    sym (joined-end (told (l .loop .t) (l .loop .at)) (l .before .before .args .pool .now) (l .loop .at) (omega arith)) ∙ l .loop .inv .4
 
 pub walk-pool-spec : {M : Type 1} → statement M
 walk-pool-spec =
@@ -87,4 +98,6 @@ walk-pool-spec =
     add-at
     loop-less
     loop-again
+    sub-t11
+    sub-t12
     returns-3)

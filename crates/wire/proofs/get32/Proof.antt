@@ -6,6 +6,15 @@ use borrow.Author.Needs.{needs}
 use Rattle.wire.proofs.get32.Statement.{statement}
 use Rattle.wire.proofs.get32.Tie as tie
 
+add-if1 : tie.Need-add-if1
+add-if1 c = search needs
+
+read32-requires : tie.Need-read32-requires
+read32-requires c κs = search needs
+
+returns : tie.Need-returns
+returns c = search needs
+
 byte-at-requires : tie.Need-byte-at-requires
 byte-at-requires c κs = search needs
 
@@ -57,13 +66,16 @@ wide32-requires-4 c κs = search needs
 add-result-2 : tie.Need-add-result-2
 add-result-2 c = search needs
 
-returns : tie.Need-returns
-returns c = simp add-zero (omega arith)
+returns-2 : tie.Need-returns-2
+returns-2 c = simp add-zero (omega arith)
 
 pub get32-spec : {M : Type 1} → statement M
 get32-spec =
     tie.close
     (tie.spec
+    add-if1
+    read32-requires
+    returns
     byte-at-requires
     wide32-requires
     mul-high
@@ -81,4 +93,4 @@ get32-spec =
     byte-at-requires-4
     wide32-requires-4
     add-result-2
-    returns)
+    returns-2)

@@ -1,0 +1,6 @@
+pub mod Names
+pub mod Numbers
+pub mod Records
+pub mod Logic
+pub mod Steps
+pub mod Words
