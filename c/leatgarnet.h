@@ -45,7 +45,7 @@ uint32_t lg_start_up(const uint32_t *table, size_t table_words, uint32_t *state,
  *   2, 3     zero
  *   4..51    the name, and zeros after it; no two records have one name
  *   52..55   the value, or of an alias the number of a lower-numbered record, through which it is resolved
- * Other commands never look at it. */
+ * Other commands never look at it. Each alias that is resolved through another takes 32 bytes of stack. */
 #define LG_SYMBOL_BYTES 56
 
 /* Numbers 0 to 15, 17 and 18. For codes 8 and 9 the order of the tests is 1 to 8; 17 if `symbols` is no table; 9 for the name's size, the pad and the
