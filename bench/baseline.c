@@ -41,20 +41,33 @@ static inline void put32(uint8_t *p, uint32_t v)
     memcpy(p, &v, 4);
 }
 
-/* The rights of the region of a good table that holds the range whole, or -1; `at` is the range's place in the image.
- * `start` is a multiple of 4 and `words` is not 0. A start below the region's gives a distance beyond its size. */
-static inline int find(const uint32_t *regions, uint32_t count, uint32_t start, uint32_t words, uint32_t *at)
+/* The number of the region of a good table that holds the range whole, or -1, by halving: the last region whose start is not above the range's, and
+ * then its end. `start` is a multiple of 4 and `words` is not 0. A start below the region's gives a distance beyond its size. */
+static inline int find(const uint32_t *regions, uint32_t count, uint32_t start, uint32_t words)
 {
-    uint32_t before = 0;
-    for (uint32_t i = 0; i < count; i++, regions += 3) {
-        uint32_t distance = (start - regions[0]) >> 2;
-        if (distance < regions[1] && words <= regions[1] - distance) {
-            *at = before + distance;
-            return (int)regions[2];
-        }
-        before += regions[1];
+    uint32_t first = 0;
+    for (uint32_t left = count, half; left > 1; left -= half) {
+        half = left / 2;
+        first += regions[3 * (first + half)] <= start ? half : 0;
     }
-    return -1;
+    uint32_t distance = (start - regions[3 * first]) >> 2, size = regions[3 * first + 1];
+    return distance < size && words <= size - distance ? (int)first : -1;
+}
+
+/* The place in the image of a range that begins at `start` in this region. */
+static inline uint32_t image_place(const uint32_t *regions, int region, uint32_t start)
+{
+    uint32_t at = (start - regions[3 * region]) >> 2;
+    for (int i = 0; i < region; i++)
+        at += regions[3 * i + 1];
+    return at;
+}
+
+/* Whether it lies whole in a region with dump right; which one. */
+static inline int can_dump(const uint32_t *regions, uint32_t count, const uint32_t *range, int *region)
+{
+    *region = find(regions, count, range[0], range[1]);
+    return *region >= 0 && regions[3 * *region + 2] & DUMP_RIGHT;
 }
 
 /* The sum of the sizes of a table that keeps the rules, or 0. */
@@ -73,7 +86,7 @@ static inline uint32_t table_sum(const uint32_t *regions, uint32_t count)
     return end <= (uint64_t)1 << 32 ? sum : 0; /* an end past 2^32 before the last region fails at the next start */
 }
 
-static inline int pools_good(const uint32_t *pools, const uint32_t *regions, uint32_t count, uint32_t at[2])
+static inline int pools_good(const uint32_t *pools, const uint32_t *regions, uint32_t count, int in[2])
 {
     for (int i = 0; i < 2; i++, pools += 2) {
         if (pools[1] == 0) {
@@ -81,20 +94,19 @@ static inline int pools_good(const uint32_t *pools, const uint32_t *regions, uin
                 return 0;
             continue;
         }
-        int rights = pools[0] % 4 == 0 ? find(regions, count, pools[0], pools[1], &at[i]) : -1;
-        if (rights < 0 || !(rights & DUMP_RIGHT))
+        if (pools[0] % 4 != 0 || !can_dump(regions, count, pools, &in[i]))
             return 0;
     }
     return 1;
 }
 
-/* Where in the image the busy dumps and the pools lie. */
+/* The regions that the busy dumps and the pools lie in. */
 struct places {
-    uint32_t dump[4], pool[2];
+    int dump[4], pool[2];
 };
 
 /* The image's length if the block is a state and a good one, or 0. */
-static inline uint32_t good(const uint32_t *s, struct places *at)
+static inline uint32_t good(const uint32_t *s, struct places *in)
 {
     const uint32_t *regions = s + REGIONS, count = s[0];
     uint32_t rights = 0, sum;
@@ -103,7 +115,7 @@ static inline uint32_t good(const uint32_t *s, struct places *at)
     if (rights > 3 || s[UNIT] > 15 || s[LAST] > 3 || (s[COUNT_785] | s[COUNT_786] | s[COUNT_788]) > 16383 || (s[ACCEPTED] | s[REFUSED]) > 65535)
         return 0;
     sum = table_sum(regions, count);
-    if (sum == 0 || !pools_good(s + POOLS, regions, count, at->pool))
+    if (sum == 0 || !pools_good(s + POOLS, regions, count, in->pool))
         return 0;
     for (int i = 0; i < 4; i++) {
         const uint32_t *p = s + PLACES + PLACE_WORDS * i;
@@ -114,8 +126,7 @@ static inline uint32_t good(const uint32_t *s, struct places *at)
         }
         if (p[BUSY] != 1 || p[TRANSACTION] > 4095 || p[WORDS] - 1 >= 65535 || p[START] % 4 != 0 || p[SENT] >= p[WORDS] || p[SENT] % CUT != 0)
             return 0;
-        int found = find(regions, count, p[START], p[WORDS], &at->dump[i]);
-        if (found < 0 || !(found & DUMP_RIGHT))
+        if (!can_dump(regions, count, p + START, &in->dump[i]))
             return 0;
         for (const uint32_t *q = s + PLACES; q < p; q += PLACE_WORDS)
             if (q[BUSY] && q[TRANSACTION] == p[TRANSACTION])
@@ -258,7 +269,8 @@ static uint32_t refuse(uint32_t *state, uint32_t number)
 uint32_t CALL(start_up)(const uint32_t *restrict table, size_t table_words, uint32_t *restrict state, size_t state_words)
 {
     const uint32_t *regions;
-    uint32_t rights = 0, pool_at[2];
+    uint32_t rights = 0;
+    int pool_in[2];
     if (table_words != TABLE_WORDS || state_words != STATE_WORDS)
         return 17;
     regions = table + 6;
@@ -266,7 +278,7 @@ uint32_t CALL(start_up)(const uint32_t *restrict table, size_t table_words, uint
     state[LAST] = 3;
     for (int i = 0; i < 16; i++)
         rights |= regions[3 * i + 2];
-    if (rights > 3 || table[0] > 15 || !table_sum(regions, table[1]) || !pools_good(table + 2, regions, table[1], pool_at))
+    if (rights > 3 || table[0] > 15 || !table_sum(regions, table[1]) || !pools_good(table + 2, regions, table[1], pool_in))
         return 17;
     state[0] = table[1];
     memcpy(state + REGIONS, regions, 12 * (size_t)table[1]);
@@ -302,11 +314,11 @@ static inline uint32_t make_busy(uint32_t *s, uint32_t transaction, uint32_t add
 }
 
 /* A packet to a good state, with an image that fits and a reply buffer. In the caller's code, as if written there. */
-__attribute__((always_inline)) static inline uint32_t carry_out(uint32_t *restrict s, const uint32_t *restrict pool_at, const uint8_t *restrict packet,
+__attribute__((always_inline)) static inline uint32_t carry_out(uint32_t *restrict s, const int *restrict pool_in, const uint8_t *restrict packet,
                                                                 size_t packet_bytes, struct symbols *restrict symbols, uint32_t *restrict image,
                                                                 uint8_t *restrict reply, uint32_t *restrict reply_length)
 {
-    uint32_t number, transaction, place, *p;
+    uint32_t number, transaction, *p;
     number = form(packet, packet_bytes);
     if (number == 5)
         return 5;
@@ -321,12 +333,13 @@ __attribute__((always_inline)) static inline uint32_t carry_out(uint32_t *restri
         uint32_t code = packet[6], size = get16(packet + 10), address = get32(packet + 12);
         if (bad_request(code, size, address))
             return refuse(s, 9);
-        int rights = find(s + REGIONS, s[0], address, size, &place);
-        if (rights < 0)
+        int region = find(s + REGIONS, s[0], address, size);
+        if (region < 0)
             return refuse(s, 10);
-        if (!(rights & (code == CODE_LOAD ? LOAD_RIGHT : DUMP_RIGHT)))
+        if (!(s[REGIONS + 3 * region + 2] & (code == CODE_LOAD ? LOAD_RIGHT : DUMP_RIGHT)))
             return refuse(s, 11);
         if (code == CODE_LOAD) {
+            uint32_t place = image_place(s + REGIONS, region, address);
             for (uint32_t i = 0; i < size; i++)
                 image[place + i] = get32(packet + 16 + 4 * i);
             break;
@@ -368,10 +381,10 @@ __attribute__((always_inline)) static inline uint32_t carry_out(uint32_t *restri
         int64_t address = get32(record + 52) + (int64_t)(int32_t)get32(packet + 60);
         if (address < 0 || address >> 32 != 0 || bad_request(CODE_DUMP, size, (uint32_t)address))
             return refuse(s, 9);
-        int rights = find(s + REGIONS, s[0], (uint32_t)address, size, &place);
-        if (rights < 0)
+        int region = find(s + REGIONS, s[0], (uint32_t)address, size);
+        if (region < 0)
             return refuse(s, 10);
-        if (!(rights & DUMP_RIGHT))
+        if (!(s[REGIONS + 3 * region + 2] & DUMP_RIGHT))
             return refuse(s, 11);
         number = make_busy(s, transaction, (uint32_t)address, size);
         if (number != 0)
@@ -384,7 +397,7 @@ __attribute__((always_inline)) static inline uint32_t carry_out(uint32_t *restri
             return refuse(s, 9);
         if (s[POOLS + 2 * pool + 1] == 0)
             return refuse(s, 10);
-        if (pool_figures(image + pool_at[pool], s[POOLS + 2 * pool + 1], reply) != 0)
+        if (pool_figures(image + image_place(s + REGIONS, pool_in[pool], s[POOLS + 2 * pool]), s[POOLS + 2 * pool + 1], reply) != 0)
             return refuse(s, 15);
         put32(reply, 785u << 16 | 3u << 14 | s[COUNT_785]);
         put16(reply + 4, REPLY_BYTES - 7);
@@ -403,16 +416,16 @@ uint32_t CALL(command)(uint32_t *restrict s, size_t state_words, const uint8_t *
                        size_t reply_bytes, uint32_t *restrict reply_length)
 {
     struct symbols lent = { symbols, symbols_bytes, UNTESTED };
-    struct places at;
+    struct places in;
     uint32_t sum;
     *reply_length = 0;
-    if (state_words != STATE_WORDS || (sum = good(s, &at)) == 0)
+    if (state_words != STATE_WORDS || (sum = good(s, &in)) == 0)
         return 1;
     if (image_words != sum)
         return 2;
     if (reply_bytes < REPLY_BYTES)
         return 3;
-    return carry_out(s, at.pool, packet, packet_bytes, &lent, image, reply, reply_length);
+    return carry_out(s, in.pool, packet, packet_bytes, &lent, image, reply, reply_length);
 }
 
 /* A good state stays good, and its table and pools and the symbols stay as they are: one test will do for all items. */
@@ -422,17 +435,17 @@ uint32_t CALL(commands)(uint32_t *restrict s, size_t state_words, const uint8_t 
                         uint8_t *restrict replies, size_t replies_bytes, struct lg_answer *restrict answers, size_t answers_count)
 {
     struct symbols lent = { symbols, symbols_bytes, UNTESTED };
-    struct places at;
+    struct places in;
     uint32_t sum, each;
     if (starts_count > ITEMS || lengths_count != starts_count || answers_count < starts_count || replies_bytes < REPLY_BYTES * starts_count)
         return 3;
-    each = state_words != STATE_WORDS || (sum = good(s, &at)) == 0 ? 1 : image_words != sum ? 2 : 0;
+    each = state_words != STATE_WORDS || (sum = good(s, &in)) == 0 ? 1 : image_words != sum ? 2 : 0;
     for (size_t i = 0; i < starts_count; i++) {
         int inside = (uint64_t)starts[i] + lengths[i] <= bytes_length;
         answers[i].number = each;
         answers[i].length = 0;
         if (each == 0)
-            answers[i].number = carry_out(s, at.pool, inside ? bytes + starts[i] : bytes, inside ? lengths[i] : 0, &lent, image,
+            answers[i].number = carry_out(s, in.pool, inside ? bytes + starts[i] : bytes, inside ? lengths[i] : 0, &lent, image,
                                           replies + REPLY_BYTES * i, &answers[i].length);
     }
     return 0;
@@ -441,10 +454,10 @@ uint32_t CALL(commands)(uint32_t *restrict s, size_t state_words, const uint8_t 
 uint32_t CALL(slot)(uint32_t *restrict s, size_t state_words, uint32_t tick, const uint32_t *restrict image, size_t image_words,
                     uint8_t *restrict buffer, size_t buffer_bytes, uint32_t *restrict length)
 {
-    struct places at;
+    struct places in;
     uint32_t sum, place, words, bytes, *p;
     *length = 0;
-    if (state_words != STATE_WORDS || (sum = good(s, &at)) == 0)
+    if (state_words != STATE_WORDS || (sum = good(s, &in)) == 0)
         return 1;
     if (image_words != sum)
         return 2;
@@ -468,7 +481,7 @@ uint32_t CALL(slot)(uint32_t *restrict s, size_t state_words, uint32_t tick, con
     put32(buffer + 16, p[WORDS]);
     put32(buffer + 20, p[START] + 4 * p[SENT]);
     put32(buffer + 24, words);
-    image += at.dump[place] + p[SENT];
+    image += image_place(s + REGIONS, in.dump[place], p[START]) + p[SENT];
     for (uint32_t i = 0; i < words; i++)
         put32(buffer + HEADER_BYTES + 4 * i, image[i]);
     p[SENT] += words;

@@ -308,15 +308,25 @@ static struct test *symbol_batch_case(const char *name, enum kind kind, double b
     return t;
 }
 
-/* The fullest good state: sixteen regions, two pools, four dumps busy, the ranges in the last regions. */
-static void fill_state(struct input *in, uint32_t dumps)
+/* Two pools, and the first places busy: all in the last region. With sixteen regions and four dumps this is the fullest good state. */
+static void fill_state(struct input *in, uint32_t regions, uint32_t dumps)
 {
     for (uint32_t i = 0; i < dumps; i++)
-        busy(in, i, 0x123 + i, region_start(15), 1016);
+        busy(in, i, 0x123 + i, region_start(regions - 1), 1016);
     for (uint32_t i = 0; i < 2; i++) {
-        in->state[S_POOLS + 2 * i] = region_start(14 + i);
+        in->state[S_POOLS + 2 * i] = region_start(regions - 1) + 256 * i;
         in->state[S_POOLS + 2 * i + 1] = 64;
     }
+}
+
+/* A slot of one word, with two pools and four dumps: six ranges are looked up to test the state, and then the dump whose turn it is. */
+static struct test *full_slot_case(const char *name, uint32_t regions, double bound)
+{
+    struct test *t = slot_case(name, regions, 1, bound);
+    fill_state(&t->in, regions, 4);
+    t->in.state[S_LAST] = 0;
+    busy(&t->in, 1, 0x777, region_start(regions - 1), 1);
+    return t;
 }
 
 static void cases(void)
@@ -336,16 +346,12 @@ static void cases(void)
     by_name[20] = (uint32_t)-64;
     slot_case("slot of 1,016 words", 4, 3000, 1.2);
     t = slot_case("slot of 1,016 words, fullest state", 16, 3000, 1.2);
-    fill_state(&t->in, 4);
+    fill_state(&t->in, 16, 4);
     slot_case("slot of 1 word", 4, 1, 2);
-    t = slot_case("slot of 1 word, fullest state", 16, 1, 2);
-    fill_state(&t->in, 4);
-    t->in.state[S_LAST] = 0;
-    busy(&t->in, 1, 0x777, region_start(15), 1);
-    t->bytes = 4;
+    full_slot_case("slot of 1 word, fullest state", 16, 2);
     command_case("dump", 4, 0, dump, 2);
     t = command_case("dump, fullest state", 16, 0, dump, 2);
-    fill_state(&t->in, 3);
+    fill_state(&t->in, 16, 3);
     command_case("cancel", 4, 0, cancel, 2);
     command_case("load of 11 words", 4, 0, load, 2);
     t = command_case("refused: wrong check byte (4)", 4, 4, dump, 2);
@@ -355,7 +361,7 @@ static void cases(void)
     command_case("refused: transaction busy (12)", 4, 12, again, 2);
     command_case("refused: no such dump (14)", 4, 14, nothing, 2);
     t = command_case("refused: pool damaged (15)", 16, 15, pool, 2);
-    fill_state(&t->in, 2);
+    fill_state(&t->in, 16, 2);
     t = slot_case("refused: no dump busy, slot (16)", 4, 0, 2);
     memset(t->in.state + S_PLACES, 0, 4 * (S_LAST - S_PLACES));
     t->number = 16;
@@ -788,6 +794,8 @@ static void growth_cases(void)
         slot_case("slot of 1,016 words by regions", regions[i], 3000, 0)->units = regions[i];
     for (int i = 0; i < 5; i++)
         slot_case("slot of 1 word by regions", regions[i], 1, 0)->units = regions[i];
+    for (int i = 0; i < 5; i++)
+        full_slot_case("seven lookups by regions", regions[i], 0)->units = regions[i];
     for (int i = 0; i < 6; i++)
         slot_case("slot by words", 4, words[i], 0)->units = words[i];
     for (int i = 0; i < 6; i++)
@@ -837,10 +845,11 @@ int main(int argc, char **argv)
     batch_table(listed);
     growth("Slot of 1,016 words against regions, the dump in the last", "Regions", 0, &tests[listed], 5);
     growth("Slot of 1 word against regions, the dump in the last", "Regions", 0, &tests[listed + 5], 5);
-    growth("Slot against words, four regions", "Words", 0, &tests[listed + 10], 6);
-    growth("Pool of 2^20 words against blocks of equal size, used or free by chance", "Blocks", 1, &tests[listed + 16], 6);
-    growth("Dump command against regions, the range in the last", "Regions", 0, &tests[listed + 22], 5);
-    growth("Value of the last symbol against records, names alike to the last of 48 bytes", "Records", 0, &tests[listed + 27], 5);
+    growth("Lookup against regions: a slot of 1 word that looks up seven ranges, all in the last", "Regions", 0, &tests[listed + 10], 5);
+    growth("Slot against words, four regions", "Words", 0, &tests[listed + 15], 6);
+    growth("Pool of 2^20 words against blocks of equal size, used or free by chance", "Blocks", 1, &tests[listed + 21], 6);
+    growth("Dump command against regions, the range in the last", "Regions", 0, &tests[listed + 27], 5);
+    growth("Value of the last symbol against records, names alike to the last of 48 bytes", "Records", 0, &tests[listed + 32], 5);
     stack_table(listed);
     printf("\n%d of %d cases are within their bounds (1.2 for slots of 1,016 words, pools and tables of 256 symbols, 2 for short calls).%s", within,
            listed, within < listed ? " Not within:" : "");

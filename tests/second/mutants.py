@@ -9,6 +9,20 @@ CALLS = sys.argv[1] if len(sys.argv) > 1 else "200000"
 FIRST = int(sys.argv[2]) if len(sys.argv) > 2 else 0
 LAST = int(sys.argv[3]) if len(sys.argv) > 3 else 10 ** 6
 M, D = "model.rs", "door.rs"
+SEARCH = "    for (i, region) in used_regions(setup).iter().enumerate() {\n"
+
+def halving(short="end_of(m.start, m.size) < end_of(start, words)", among="all.len()", until="left > 1"):
+    """the model's search by halving (A3), with a fault in one of its parts"""
+    return f"""    let all = used_regions(setup);
+    let (mut first, mut left) = (0, {among});
+    while {until} {{
+        let (half, m) = (left / 2, &all[first + left / 2 - 1]);
+        if {short} {{ first += half; }}
+        left -= half;
+    }}
+    for (i, region) in all.iter().enumerate().skip(first).take(1) {{
+"""
+
 # (name, file, old, new)
 MUTANTS = [
     ("none (must agree)", M, "", ""),
@@ -22,6 +36,12 @@ MUTANTS = [
     ("touching regions refused", M, "end_of(before.start, before.size) > u64::from(after.start.0)", "end_of(before.start, before.size) >= u64::from(after.start.0)"),
     ("overlap by a word taken", M, "end_of(before.start, before.size) > u64::from(after.start.0)", "end_of(before.start, before.size) > u64::from(after.start.0) + 4"),
     ("range over touching regions", M, "end_of(start, words) <= end_of(region.start, region.size) {", "(end_of(start, words) <= end_of(region.start, region.size) || setup.regions.get(i + 1).is_some_and(|n| i + 1 < setup.region_count as usize && u64::from(n.start.0) == end_of(region.start, region.size) && end_of(start, words) <= end_of(n.start, n.size) && start.0 < n.start.0)) {"),
+    ("halving: the upper half left out", M, SEARCH, halving(short="false && m.size > 0")),
+    ("halving: the lower half left out", M, SEARCH, halving(short="m.size > 0")),
+    ("halving: a range that ends with the lower half sought above it", M, SEARCH, halving(short="end_of(m.start, m.size) <= end_of(start, words)")),
+    ("halving: the last region left out", M, SEARCH, halving(among="all.len().max(2) - 1")),
+    ("halving: ends at two regions", M, SEARCH, halving(until="left > 2")),
+    ("end of the region not looked at", M, "start.0 >= region.start.0 && end_of(start, words) <= end_of(region.start, region.size) {", "start.0 >= region.start.0 && u64::from(start.0) < end_of(region.start, region.size) {"),
     ("no pool but start taken", M, "return pool.start == Address(0);", "return true;"),
     ("pool unaligned taken", M, "if !aligned(pool.start) {", "if false {"),
     ("pool without dump right", M, "Some(i) => setup.regions[i].dump,\n    }\n}", "Some(_) => true,\n    }\n}"),

@@ -1,8 +1,8 @@
 -- Numbers 1 to 3: the words of a good state's image decide as the rows do, and what is then known of the state.
 -- Assumes nothing.
-use mathlib.Core.Path.{_≡_, refl, sym, _∙_}
+use mathlib.Core.Path.{_≡_}
 use mathlib.Core.Logic.{_≢_}
-use mathlib.Core.Bool.{true, not}
+use mathlib.Core.Bool.{true}
 use mathlib.Core.List.{List}
 use Prim.Native.Nat.{ℕ, _≤_, min}
 use native.Mathlib.Omega.{arith}
@@ -10,20 +10,19 @@ use lib.Dec.{eqb}
 use lib.ListN.{length}
 use borrow.Author.Tests.{eqb-true, ne-eqb, ltb-false, not-false}
 use Rattle.lists.proofs.Tests.{either}
-use Rattle.rules.specs.Regions.{tableRules, imageLength}
+use Rattle.rules.specs.Regions.{imageLength}
 use Rattle.rules.specs.States.{goodState}
 use Rattle.rules.specs.Results.{lowest, lentRows}
 use Rattle.rules.proofs.Good.{GoodIs, good-out}
 use Rattle.rules.proofs.Located.{good-table}
 use Rattle.rules.proofs.Passed.{lowest-none}
 use Rattle.rules.proofs.Rules.{StartIs, start-out}
-use Rattle.rules.proofs.Table.{table-count}
 use Rattle.rules.specs.declared.Range.{Range}
 use Rattle.rules.specs.declared.State.{State}
 use Rattle.rules.specs.declared.Verdict.the-variants.{Accepted}
-use Rattle.regions.specs.Lookup.{findRegion}
+use Rattle.regions.specs.Halving.{findByHalving}
 use Rattle.regions.specs.declared.Found.{Found}
-use Rattle.regions.proofs.Answers.{some-words, found-of-all}
+use Rattle.regions.proofs.Answers.{some-words, found-in-order}
 use Rattle.decide.specs.Decisions.{lentBy, goodWords, find}
 
 -- what 1 to 3 passed say
@@ -59,8 +58,8 @@ lent-good s image size buffer h =
     either (goodState s) (λ g. g) (λ g. let k = rw g at h in let z : _≡_ {A = ℕ} 0 1 = cc in absurd (omega arith))
 
 -- the lookup in its table
-pub found-good : (s : State) (a : Range) {f : Found} → f ≡ findRegion (s .regions) (min (s .count) 16) a → goodState s ≡ true → f ≡ find s a
-found-good s a e g = found-of-all _ _ a e (table-count _ _ (good-table s g) .1)
+pub found-good : (s : State) (a : Range) {f : Found} → f ≡ findByHalving (s .regions) (min (s .count) 16) a → goodState s ≡ true → f ≡ find s a
+found-good s a e g = found-in-order _ _ a e (good-table s g)
 
 -- a call that is lent enough has a good state
 pub lent-some : (w image size buffer : ℕ) → lentBy w image size buffer ≡ Accepted → w ≢ 0

@@ -1,23 +1,24 @@
 -- Region i of a table in words against region i of the table: one turn of each loop, the region found, and what the loops end with.
 -- Assumes nothing.
 use mathlib.Core.Path.{_≡_, sym, ap, _∙_}
-use mathlib.Core.Bool.{Bool, true, false}
+use mathlib.Core.Bool.{Bool, true}
 use mathlib.Core.List.{List}
 use Prim.Native.Nat.{ℕ, _+_, _*_, _-_, _/_, _%_, _≤_, _<_, min}
 use native.Mathlib.Omega.{arith}
 use lib.Dec.{leb, eqb}
 use lib.ListN.{length, List·getD-eq-default}
 use borrow.Author.Tests.{le-leb, lt-leb}
-use Rattle.lists.specs.Below.{allBelow, anyBelow}
+use Rattle.lists.specs.Below.{allBelow}
 use Rattle.lists.proofs.Below.{all-at, all-of}
 use Rattle.lists.proofs.Tests.{either, contra, by-lt}
 use Rattle.rules.specs.Regions.{startOf, endOf, noRegion, regionAt, rangeAt, endBefore, regionRules, wordsBelow}
 use Rattle.rules.specs.declared.Range.{Range}
 use Rattle.rules.specs.declared.Refusal.the-variants.{OutsideRegions}
 use Rattle.rules.specs.declared.Region.{Region}
-use Rattle.regions.specs.Lookup.{rulesBy, holdsBy, findRegion}
+use Rattle.regions.specs.Halving.{regionByHalving, findByHalving}
+use Rattle.regions.specs.Lookup.{rulesBy, holdsBy}
 use Rattle.regions.specs.declared.Found.the-variants.{Missed, At}
-use Rattle.regions.proofs.Steps.{end-more, words-more, held, found-at}
+use Rattle.regions.proofs.Steps.{end-more, words-more, found-at}
 use Rattle.block.specs.Blocks.{word, rangeIn, regionIn, regionsIn, regionsBounds}
 use Rattle.block.proofs.Runs.{list-at}
 use Rattle.lent_regions.specs.Finding.{findIn}
@@ -40,18 +41,19 @@ module _ (w : List ℕ) (i : ℕ) (l : i < 16) where
     pub words-at : wordsBelow (regionsIn w 0) i + words ≡ wordsBelow (regionsIn w 0) (i + 1)
     words-at = rw (ew) (rw range-at at (words-more (regionsIn w 0) i))
 
-    pub held-at : (from end : ℕ) → holdsBy start words from end ≡ held (regionsIn w 0) from end i
+    pub end-is : {e : ℕ} → e ≡ start + 4 * words → e ≡ endOf (rangeAt (regionsIn w 0) i)
+    end-is ee = ee ∙ rw (es, ew, range-at)
+
+    pub held-at : (from end : ℕ)
+        → holdsBy start words from end ≡ holdsBy (startOf (rangeAt (regionsIn w 0) i)) (rangeAt (regionsIn w 0) i .words) from end
     held-at from end = rw (es, ew, range-at)
 
-    -- the region that holds the range, with its rights as they were read
-    pub found-here : (m : ℕ) (a : Range) (end : ℕ) → end ≡ endOf a → i < m → holdsBy start words (startOf a) end ≡ true
-        → anyBelow (held (regionsIn w 0) (startOf a) end) i ≡ false → (base offset rights : ℕ) → base ≡ wordsBelow (regionsIn w 0) i
-        → offset ≡ (startOf a - start) / 4 → rights ≡ word w (3 * i + 2)
-        → At (record { region = i; index = record { 0 = base + offset }; load = eqb (rights % 2) 1; dump = leb 2 rights }) ≡ findRegion (regionsIn w 0) m a
-    found-here m a end ee k h none base offset rights eb eo er =
-        rw (er)
-        (rw region-at at
-        (found-at (regionsIn w 0) m a end ee i k (sym (held-at (startOf a) end) ∙ h) none base offset eb (eo ∙ rw (es, range-at))))
+  -- the region found, with its rights as they were read
+  pub found-here : (m : ℕ) (a : Range) → i ≡ regionByHalving (regionsIn w 0) m a → i < m → (below before rights : ℕ) → below ≡ wordsBelow (regionsIn w 0) i
+      → before ≡ (startOf a - word w (3 * i)) / 4 → rights ≡ word w (3 * i + 2)
+      → At (record { region = i; index = record { 0 = below + before }; load = eqb (rights % 2) 1; dump = leb 2 rights }) ≡ findByHalving (regionsIn w 0) m a
+  found-here m a ei k below before rights eb eo er =
+      rw (er) (rw region-at at (found-at (regionsIn w 0) m a i ei k below before eb (eo ∙ rw (range-at))))
 
 -- THE RIGHTS of the entries that are whole in the words: the others are 0
 module _ (w : List ℕ) (m : ℕ) (em : m ≡ min (length w / 3) 16) where
@@ -74,6 +76,6 @@ module _ (w : List ℕ) (n : ℕ) (a : Range) where
   unfolding findIn
   no-table l = rw (lt-leb 48 (length w) l)
 
-  pub of-table : 48 ≤ length w → findIn w n a ≡ findRegion (regionsIn w 0) (min n 16) a
+  pub of-table : 48 ≤ length w → findIn w n a ≡ findByHalving (regionsIn w 0) (min n 16) a
   unfolding findIn
   of-table l = rw (le-leb 48 (length w) l)

@@ -1,10 +1,15 @@
 // The region table of a block: 48 words, three to a region (start, size, rights), in the caller's memory. The rules of one region are in regions.
 ghost use mathlib.Core.Path.{_≡_};
+ghost use Prim.Native.Nat.{_*_, _≤_, min};
+ghost use lib.ListN.{length};
+ghost use Rattle.rules.specs.Regions.{wordsBelow};
+ghost use Rattle.regions.specs.Halving.{regionByHalving, compared, AtMostFive};
 ghost use Rattle.regions.specs.Lookup.{tableWords};
 ghost use Rattle.block.specs.Blocks.{regionsIn, regionsBounds};
 ghost use Rattle.lent_regions.specs.Finding.{findIn};
 use block::word_at;
 use regions::Found;
+use regions::Searched;
 use regions::Spot;
 use regions::end_of;
 use regions::entries;
@@ -52,6 +57,52 @@ pub fn table_words(rs: &[u32], n: usize) -> usize
     total
 }
 
+// The region that holds the range whole, by halving. Right for a table by the rules, since that is in order.
+fn region_of(rs: &[u32], n: usize, a: Range) -> Searched
+    requires { ⌜ 48 ≤ length (now rs) ⌝ }
+    ensures { λ s. ⌜ (s .region ≡ regionByHalving (regionsIn (now (rs .entry)) 0) (min n 16) a) × (s .compared ≡ length (compared (regionsIn (now (rs .entry)) 0) (min n 16) a)) × AtMostFive (regionsIn (now (rs .entry)) 0) (min n 16) a ⌝ }
+{
+    let m = entries(n);
+    let from = a.start.0;
+    let end = end_of(from, a.words);
+    let mut first: usize = 0;
+    let mut left = m;
+    let mut compared: usize = 1;
+    while 1 < left {
+        let half = left / 2;
+        let middle = first + half - 1;
+        compared += 1;
+        if end_of(rs[3 * middle], rs[3 * middle + 1]) < end {
+            first += half;
+        }
+        left -= half;
+    }
+    if is_holding(rs[3 * first], rs[3 * first + 1], from, end) {
+        return Searched {
+            region: first,
+            compared,
+        };
+    }
+    Searched {
+        region: m,
+        compared,
+    }
+}
+
+// The words of the first k regions.
+fn words_below(rs: &[u32], k: usize) -> usize
+    requires { ⌜ (48 ≤ length (now rs)) × (k ≤ 16) ⌝ }
+    ensures { λ w. ⌜ (w ≡ wordsBelow (regionsIn (now (rs .entry)) 0) k) × (w ≤ 4294967296 * k) ⌝ }
+{
+    let mut total: usize = 0;
+    let mut i: usize = 0;
+    while i < k {
+        total += rs[3 * i + 1] as usize;
+        i += 1;
+    }
+    total
+}
+
 // The region that holds the range whole, and where the range begins in the image.
 pub fn find_region(rs: &[u32], n: usize, a: Range) -> Found
     ensures { λ f. ⌜ f ≡ findIn (now (rs .entry)) n a ⌝ }
@@ -59,26 +110,19 @@ pub fn find_region(rs: &[u32], n: usize, a: Range) -> Found
     if rs.len() < 48 {
         return Found::Missed(Refusal::OutsideRegions);
     }
-    let m = entries(n);
-    let from = a.start.0;
-    let end = end_of(from, a.words);
-    let mut base: usize = 0;
-    let mut i: usize = 0;
-    while i < m {
-        let start = rs[3 * i];
-        let words = rs[3 * i + 1];
-        if is_holding(start, words, from, end) {
-            let rights = rs[3 * i + 2];
-            let index = WordIndex(base + words_before(start, from) as usize);
-            return Found::At(Spot {
-                region: i,
-                index,
-                load: rights % 2 == 1,
-                dump: 2 <= rights,
-            });
-        }
-        base += words as usize;
-        i += 1;
+    let searched = region_of(rs, n, a);
+    let k = searched.region;
+    if entries(n) <= k {
+        return Found::Missed(Refusal::OutsideRegions);
     }
-    Found::Missed(Refusal::OutsideRegions)
+    let below = words_below(rs, k);
+    let before = words_before(rs[3 * k], a.start.0) as usize;
+    let at = below + before;
+    let rights = rs[3 * k + 2];
+    Found::At(Spot {
+        region: k,
+        index: WordIndex(at),
+        load: rights % 2 == 1,
+        dump: 2 <= rights,
+    })
 }

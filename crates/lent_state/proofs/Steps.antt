@@ -14,7 +14,6 @@ use Rattle.lists.proofs.Below.{all-at, all-of}
 use Rattle.lists.proofs.Tests.{either, contra, and-left}
 use Rattle.rules.specs.Regions.{startOf, aligned, tableRules, inOneRegion, dumpRight}
 use Rattle.rules.specs.States.{poolRules, pieceWords, dumpRules, contextAt, contextRules, apart}
-use Rattle.rules.proofs.Table.{table-count}
 use Rattle.rules.specs.declared.ActiveDump.{ActiveDump}
 use Rattle.rules.specs.declared.Context.{Context}
 use Rattle.rules.specs.declared.Context.the-variants.{Idle, Busy}
@@ -22,7 +21,7 @@ use Rattle.rules.specs.declared.Range.{Range}
 use Rattle.rules.specs.declared.Region.{Region}
 use Rattle.regions.specs.Lookup.{canDump}
 use Rattle.regions.specs.declared.Found.{Found}
-use Rattle.regions.proofs.Answers.{found-of-all, can-dump-found}
+use Rattle.regions.proofs.Answers.{found-in-order, can-dump-found}
 use Rattle.places.specs.Turns.{dumpFields, firstWithin}
 use Rattle.places.proofs.Answers.{apart-before}
 use Rattle.block.specs.Blocks.{regionsIn, placesIn, placeBounds}
@@ -72,7 +71,7 @@ dump-refused rs n d x ex h = rw (by-fields rs n d, ← ex, not-true x h)
 module _ (v : List ℕ) (l : length v ≡ 48) (n : ℕ) (table : tableRules (regionsIn v 0) n ≡ true) where
   found-dumps : (a : Range) → 1 ≤ a .words → (f : Found) → f ≡ findIn v n a → canDump f ≡ inOneRegion dumpRight (regionsIn v 0) n a
   found-dumps a one f e =
-      ap canDump (found-of-all (regionsIn v 0) n a (e ∙ of-table v n a (omega arith)) (table-count (regionsIn v 0) n table .1))
+      ap canDump (found-in-order (regionsIn v 0) n a (e ∙ of-table v n a (omega arith)) table)
       ∙ can-dump-found (regionsIn v 0) n a table one
 
   pub pool-some : (p : Range) → p .words ≢ 0 → startOf p % 4 ≡ 0 → (f : Found) → f ≡ findIn v n p → canDump f ≡ poolRules (regionsIn v 0) n p

@@ -11,10 +11,9 @@ use Rattle.rules.specs.States.{goodState}
 use Rattle.rules.specs.declared.Range.{Range}
 use Rattle.rules.proofs.Good.{good-out}
 use Rattle.rules.proofs.Rules.{start-out}
-use Rattle.rules.proofs.Table.{table-count}
 use Rattle.regions.specs.Lookup.{findRegion}
 use Rattle.regions.specs.declared.Found.{Found}
-use Rattle.regions.proofs.Answers.{found-of-all}
+use Rattle.regions.proofs.Answers.{found-in-order}
 use Rattle.places.specs.Turns.{firstWithin, nextTurn}
 use Rattle.places.specs.declared.Turn.{Turn}
 use Rattle.block.specs.Blocks.{word, regionsIn, placesIn, stateOf, isBlock}
@@ -34,7 +33,7 @@ module _ (b : List ℕ) where
       let l = block-out b block .words in
       let part : 48 ≤ length (take 48 (drop 1 b)) = simp (length-take, length-drop) (omega arith) in
       let start = start-out (stateOf b .regions) (stateOf b .count) (stateOf b .pools) (stateOf b .unit) (good-out (stateOf b) good .rules) in
-      found-of-all (regionsIn b 1) (word b 0) a (rw (regions-part b 1, en) at (e ∙ of-table (take 48 (drop 1 b)) n a part)) (table-count (regionsIn b 1) (word b 0) (start .table) .1)
+      found-in-order (regionsIn b 1) (word b 0) a (rw (regions-part b 1, en) at (e ∙ of-table (take 48 (drop 1 b)) n a part)) (start .table)
 
   -- whose packet is next
   pub turn-in : isBlock b ≡ true → (last : ℕ) → last ≡ word b 74 → {r : Turn} → r ≡ nextTurn (placesRead (take 20 (drop 54 b))) last

@@ -13,8 +13,10 @@ use Rattle.rules.specs.Regions.{regionAt, rangeAt, tableRules, anyRight, dumpRi
 use Rattle.rules.proofs.Table.{table-count, table-region, region-holds, holds-unique, one-out, one-in, one-any, holds-any}
 use Rattle.rules.specs.declared.Range.{Range}
 use Rattle.rules.specs.declared.Region.{Region}
+use Rattle.regions.specs.Halving.{findByHalving}
 use Rattle.regions.specs.Lookup.{tableWords, findRegion, canDump}
 use Rattle.regions.specs.declared.Found.{Found}
+use Rattle.regions.proofs.InOrder.{right-in-order}
 
 -- THE TABLE'S TEST
 
@@ -50,9 +52,9 @@ module _ (rs : List Region) (n : ℕ) where
 -- THE LOOKUP
 
 module _ (rs : List Region) (n : ℕ) (a : Range) where
-  -- the entries that are looked at are all, where there are no more than sixteen
-  pub found-of-all : {f : Found} → f ≡ findRegion rs (min n 16) a → n ≤ 16 → f ≡ findRegion rs n a
-  found-of-all e h = rw (min-eq-left {n = n} {m = 16} h) at e
+  -- in a table by the rules the search by halving finds what the table says
+  pub found-in-order : {f : Found} → f ≡ findByHalving rs (min n 16) a → tableRules rs n ≡ true → f ≡ findRegion rs n a
+  found-in-order e rules = rw (min-eq-left {n = n} {m = 16} (table-count rs n rules .1)) at e ∙ right-in-order rs n rules a .found
 
   -- a range of a table by the rules lies in one region at most, so the right of the region found decides
   pub can-dump-found : tableRules rs n ≡ true → 1 ≤ a .words → canDump (findRegion rs n a) ≡ inOneRegion dumpRight rs n a
@@ -74,6 +76,6 @@ module _ (rs : List Region) (n : ℕ) (a : Range) where
           absurd (contra t d))
           (λ o. d ∙ sym o))
 
-  pub can-dump-of : (f : Found) → f ≡ findRegion rs (min n 16) a → (b : Bool) → b ≡ canDump f → tableRules rs n ≡ true → 1 ≤ a .words
+  pub can-dump-of : (f : Found) → f ≡ findByHalving rs (min n 16) a → (b : Bool) → b ≡ canDump f → tableRules rs n ≡ true → 1 ≤ a .words
       → b ≡ inOneRegion dumpRight rs n a
-  can-dump-of f ef b eb rules one = eb ∙ rw (found-of-all ef (table-count rs n rules .1)) (can-dump-found rules one)
+  can-dump-of f ef b eb rules one = eb ∙ rw (found-in-order ef rules) (can-dump-found rules one)

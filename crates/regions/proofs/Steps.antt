@@ -1,36 +1,30 @@
--- The test of one region, one turn of each loop over the table, and what the loops end with.
+-- One turn of each loop over the table, and what the loops end with.
 -- Assumes nothing.
-use mathlib.Core.Path.{_≡_, refl, sym, _∙_}
+use mathlib.Core.Path.{_≡_, refl, sym, ap, _∙_}
 use mathlib.Core.Bool.{Bool, true, false, _&&_, _||_}
 use mathlib.Core.List.{List}
-use Prim.Native.Nat.{ℕ, _+_, _*_, _-_, _/_, _≤_, _<_}
+use Prim.Native.Nat.{ℕ, zero, suc, _+_, _-_, _/_, _≤_, _<_}
 use native.Mathlib.Numerals.{add-one}
 use native.Mathlib.Omega.{arith}
 use lib.Dec.{leb, ltb, eqb}
-use borrow.Author.Tests.{ltb-false, eqb-false, ne-eqb, le-leb, lt-leb, le-ltb}
-use Rattle.lists.specs.Below.{allBelow, anyBelow}
+use lib.ListN.{length}
+use borrow.Author.Tests.{ltb-false, eqb-false, ne-eqb, le-leb, lt-ltb, le-ltb}
+use Rattle.lists.specs.Below.{allBelow}
 use Rattle.lists.proofs.Tests.{either, contra, and-right, or-left, or-right}
-use Rattle.lists.proofs.Below.{all-at, any-of, none-at, any-same, first-is, sum-more}
-use Rattle.rules.specs.Regions.{startOf, endOf, regionAt, rangeAt, endBefore, regionRules, tableRules, anyRight, holds, inOneRegion, wordsBelow, imageLength, regionOf, imageIndex}
+use Rattle.lists.proofs.Below.{all-at, sum-more}
+use Rattle.rules.specs.Regions.{startOf, endOf, regionAt, rangeAt, endBefore, regionRules, tableRules, anyRight, holds, wordsBelow, imageLength}
 use Rattle.rules.proofs.Table.{table-count}
 use Rattle.rules.specs.declared.Range.{Range}
 use Rattle.rules.specs.declared.Refusal.the-variants.{OutsideRegions}
 use Rattle.rules.specs.declared.Region.{Region}
-use Rattle.regions.specs.Lookup.{holdsBy, tableWords, findRegion}
+use Rattle.regions.specs.Halving.{middle, nextFirst, oneLeft, comparisons, candidate, regionByHalving, compared, findByHalving}
+use Rattle.regions.specs.Lookup.{holdsBy, tableWords}
 use Rattle.regions.specs.declared.Found.the-variants.{Missed, At}
+use Rattle.regions.proofs.InOrder.{left-end, left-round, compared-end, compared-round, few, reach}
 
 pub and-true : (a : Bool) → (a && true) ≡ a
 and-true true = refl
 and-true false = refl
-
--- ONE REGION, its end tested first
-
-module _ (start words from end e : ℕ) (ee : e ≡ start + 4 * words) where
-  pub held-not : e < end → false ≡ holdsBy start words from end
-  held-not l = rw (← ee, lt-leb end e l) (either (leb start from) (λ h. rw h) (λ h. rw h))
-
-  pub held-from : end ≤ e → leb start from ≡ holdsBy start words from end
-  held-from l = rw (← ee, le-leb end e l) (sym (and-true _))
 
 -- THE TABLE'S TEST
 
@@ -71,33 +65,96 @@ module _ (rs : List Region) (i : ℕ) where
   unfolding wordsBelow
   words-more = sym (sum-more (λ k. rangeAt rs k .words) i)
 
--- THE LOOKUP, with the end of the range worked out before
+-- THE SEARCH, with the end of the range worked out before
 
-abbrev pub held : List Region → ℕ → ℕ → ℕ → Bool
-held rs from end i = holdsBy (startOf (rangeAt rs i)) (rangeAt rs i .words) from end
+abbrev pub falls-short : List Region → ℕ → ℕ → Bool
+falls-short rs end i = ltb (endOf (rangeAt rs i)) end
 
-module _ (rs : List Region) (m : ℕ) (a : Range) (end : ℕ) (ee : end ≡ endOf a) where
-  held-at : (i : ℕ) → held rs (startOf a) end i ≡ holds anyRight rs a i
-  held-at i = rw ee (sym (and-true _))
+-- the regions that are left, what the rounds to come make of them, and how many were compared, the last one included
+pub record Left (short : ℕ → Bool) (m first left count : ℕ) : Type 0 where
+  pub rounds : ℕ
+  pub most : left ≤ reach rounds
+  pub fits : first + left ≤ 16
+  pub low : first < 16
+  pub same : oneLeft short rounds first left ≡ oneLeft short 4 0 m
+  pub counted : count + length (comparisons short rounds first left) ≡ 1 + length (comparisons short 4 0 m)
 
-  held-below : anyBelow (held rs (startOf a) end) m ≡ inOneRegion anyRight rs m a
-  unfolding inOneRegion
-  held-below = any-same _ (holds anyRight rs a) m (λ i l. held-at i)
+module _ (short : ℕ → Bool) (m : ℕ) where
+  pub all-left : m ≤ 16 → Left short m 0 m 1
+  all-left l = record { rounds = 4; most = l; fits = omega arith; low = omega arith; same = refl; counted = refl }
 
-  pub found-none : (i : ℕ) → i ≤ m → m ≤ i → anyBelow (held rs (startOf a) end) i ≡ false → Missed OutsideRegions ≡ findRegion rs m a
-  unfolding findRegion
-  found-none i l k h =
-      let e : m ≡ i = omega arith in
-      let none : inOneRegion anyRight rs m a ≡ false = sym held-below ∙ rw e h in
-      rw none
+  -- one round
+  pub half-left : (first left count : ℕ) → Left short m first left count → 1 < left → (next : ℕ) → next ≡ nextFirst short first left
+      → Left short m next (left - left / 2) (count + 1)
+  half-left first left count w l next e = on (w .rounds) (w .most) (w .same) (w .counted)
+    where
+      room : (next + (left - left / 2) ≤ 16) × (next < 16)
+      room =
+          let f = w .fits in
+          either (short (middle first left))
+          (λ h. let g : next ≡ first + left / 2 = e ∙ rw h in (omega arith, omega arith))
+          (λ h. let g : next ≡ first = e ∙ rw h in (omega arith, omega arith))
 
-  pub found-at : (i : ℕ) → i < m → held rs (startOf a) end i ≡ true → anyBelow (held rs (startOf a) end) i ≡ false
-      → (base offset : ℕ) → base ≡ wordsBelow rs i → offset ≡ (startOf a - startOf (rangeAt rs i)) / 4
-      → At (record { region = i; index = record { 0 = base + offset }; load = regionAt rs i .load; dump = regionAt rs i .dump }) ≡ findRegion rs m a
-  unfolding findRegion imageIndex regionOf
-  found-at i l h none base offset eb eo =
-      let k : regionOf rs m a ≡ i =
-      first-is (holds anyRight rs a) m l (sym (held-at i) ∙ h) (λ j q. sym (held-at j) ∙ none-at (held rs (startOf a) end) i none q)
-      in
-      let some : inOneRegion anyRight rs m a ≡ true = sym held-below ∙ any-of (held rs (startOf a) end) m l h in
-      rw (some, k, eb, eo)
+      on : (k : ℕ) → left ≤ reach k → oneLeft short k first left ≡ oneLeft short 4 0 m
+          → count + length (comparisons short k first left) ≡ 1 + length (comparisons short 4 0 m) → Left short m next (left - left / 2) (count + 1)
+      on zero q h n = absurd (omega arith)
+      on (suc k) q h n =
+          let c = compared-round short first left k l in
+          record {
+            rounds = k;
+            most = omega arith;
+            fits = room .0;
+            low = room .1;
+            same = rw e (sym (left-round short first left k l) ∙ h);
+            counted = rw e (omega arith);
+          }
+
+  pub one-left : (first left count : ℕ) → Left short m first left count → left ≤ 1 → first ≡ oneLeft short 4 0 m
+  one-left first left count w l = sym (left-end short first left (w .rounds) l) ∙ w .same
+
+  pub all-counted : (first left count : ℕ) → Left short m first left count → left ≤ 1 → count ≡ length (comparisons short 4 0 m)
+  all-counted first left count w l = let c = compared-end short first left (w .rounds) l in let n = w .counted in omega arith
+
+  pub count-low : (first left count : ℕ) → Left short m first left count → count ≤ 6
+  count-low first left count w = let f = few short 4 0 m in let n = w .counted in omega arith
+
+-- the test of a round, with the end of its region as it was worked out
+module _ (rs : List Region) (end first left : ℕ) (e : ℕ) (ee : e ≡ endOf (rangeAt rs (middle first left))) where
+  pub on-short : e < end → first + left / 2 ≡ nextFirst (falls-short rs end) first left
+  on-short l = rw (← ee, lt-ltb e end l)
+
+  pub on-long : end ≤ e → first ≡ nextFirst (falls-short rs end) first left
+  on-long l = rw (← ee, le-ltb e end l)
+
+pub compared-is : (rs : List Region) (m : ℕ) (a : Range) (end : ℕ) → end ≡ endOf a → {count : ℕ}
+    → count ≡ length (comparisons (falls-short rs end) 4 0 m) → count ≡ length (compared rs m a)
+unfolding compared
+compared-is rs m a end ee e = e ∙ ap (λ x. length (comparisons (falls-short rs x) 4 0 m)) ee
+
+-- the region that is left holds the range, or does not
+module _ (rs : List Region) (m : ℕ) (a : Range) (end : ℕ) (ee : end ≡ endOf a) (k : ℕ) (ek : k ≡ oneLeft (falls-short rs end) 4 0 m) where
+  is-left : candidate rs m a ≡ k
+  unfolding candidate oneLeft
+  is-left = rw (← ee) (sym ek)
+
+  held-is : holdsBy (startOf (rangeAt rs k)) (rangeAt rs k .words) (startOf a) end ≡ holds anyRight rs a k
+  held-is = rw ee (sym (and-true _))
+
+  pub region-held : holdsBy (startOf (rangeAt rs k)) (rangeAt rs k .words) (startOf a) end ≡ true → k ≡ regionByHalving rs m a
+  unfolding regionByHalving
+  region-held h = rw (is-left, sym held-is ∙ h)
+
+  pub region-none : holdsBy (startOf (rangeAt rs k)) (rangeAt rs k .words) (startOf a) end ≡ false → m ≡ regionByHalving rs m a
+  unfolding regionByHalving
+  region-none h = rw (is-left, sym held-is ∙ h)
+
+-- THE LOOKUP, by the region that was regionByHalving
+module _ (rs : List Region) (m : ℕ) (a : Range) (k : ℕ) (ek : k ≡ regionByHalving rs m a) where
+  pub found-none : m ≤ k → Missed OutsideRegions ≡ findByHalving rs m a
+  unfolding findByHalving
+  found-none l = rw (← ek, le-ltb k m l)
+
+  pub found-at : k < m → (below before : ℕ) → below ≡ wordsBelow rs k → before ≡ (startOf a - startOf (rangeAt rs k)) / 4
+      → At (record { region = k; index = record { 0 = below + before }; load = regionAt rs k .load; dump = regionAt rs k .dump }) ≡ findByHalving rs m a
+  unfolding findByHalving
+  found-at l below before eb eo = rw (← ek, lt-ltb k m l, eb, eo)

@@ -1,1 +1,3 @@
 pub mod Lookup
+pub mod Halving
+pub mod SearchExamples

@@ -9,7 +9,6 @@ use Rattle.rules.specs.declared.Refusal.the-variants.{OutsideRegions}
 use Rattle.rules.specs.declared.Region.{Region}
 use Rattle.regions.specs.declared.Found.{Found}
 use Rattle.regions.specs.declared.Found.the-variants.{Missed, At}
-use Rattle.regions.specs.declared.Spot.{Spot}
 
 -- what `regionRules` asks of a region with this start and size, where the region before ends at `before`
 abbrev pub rulesBy : ℕ → ℕ → ℕ → Bool

@@ -1,7 +1,15 @@
 // Regions: the rules of one, what a lookup answers, and the table of a State. The table of a block of words is in lent_regions.
 ghost use mathlib.Core.Path.{_≡_};
-ghost use Prim.Native.Nat.{_+_, _*_, _-_, _/_, min};
-ghost use Rattle.regions.specs.Lookup.{rulesBy, holdsBy, tableWords, findRegion, canDump};
+ghost use mathlib.Core.Bool.{true};
+ghost use mathlib.Core.List.{List};
+ghost use Prim.Native.Nat.{ℕ, _+_, _*_, _-_, _/_, _≤_, min};
+ghost use lib.ListN.{length};
+ghost use Rattle.rules.specs.Regions.{tableRules, wordsBelow};
+ghost use Rattle.rules.specs.declared.Range.{Range};
+ghost use Rattle.rules.specs.declared.Region.{Region};
+ghost use Rattle.regions.specs.Halving.{regionByHalving, compared, AtMostFive, RightInOrder, findByHalving};
+ghost use Rattle.regions.specs.Lookup.{rulesBy, holdsBy, tableWords, canDump};
+ghost use Rattle.regions.specs.SearchExamples.{SearchExamples};
 use rules::Range;
 use rules::Refusal;
 use rules::Region;
@@ -19,6 +27,12 @@ pub struct Spot {
 pub enum Found {
     Missed(Refusal),
     At(Spot),
+}
+
+// What a search answers: the region, or the number of entries looked at where none holds the range; and how many regions it compared.
+pub struct Searched {
+    pub region: usize,
+    pub compared: usize,
 }
 
 // ONE REGION: written once for both tables
@@ -41,14 +55,11 @@ pub fn region_rules(start: u32, words: u32, before: u64) -> bool
         & (before <= start as u64)
 }
 
-// Whether a region holds whole what begins at `from` and ends at `end`. Most regions fail at their end, so that is tested first.
+// Whether a region holds whole what begins at `from` and ends at `end`.
 pub fn is_holding(start: u32, words: u32, from: u32, end: u64) -> bool
     ensures { λ b. ⌜ b ≡ holdsBy start words from end ⌝ }
 {
-    if end_of(start, words) < end {
-        return false;
-    }
-    start <= from
+    (start <= from) & (end <= end_of(start, words))
 }
 
 // The words of a region before address `from`.
@@ -101,30 +112,81 @@ pub fn table_words(rs: [Region; 16], n: usize) -> usize
     total
 }
 
-// The region that holds the range whole, and where the range begins in the image.
-pub fn find_region(rs: [Region; 16], n: usize, a: Range) -> Found
-    ensures { λ f. ⌜ f ≡ findRegion rs (min n 16) a ⌝ }
+// The region that holds the range whole, by halving. Right for a table by the rules, since that is in order.
+fn region_of(rs: [Region; 16], n: usize, a: Range) -> Searched
+    ensures { λ s. ⌜ (s .region ≡ regionByHalving rs (min n 16) a) × (s .compared ≡ length (compared rs (min n 16) a)) × AtMostFive rs (min n 16) a ⌝ }
 {
     let m = entries(n);
     let from = a.start.0;
     let end = end_of(from, a.words);
-    let mut base: usize = 0;
-    let mut i: usize = 0;
-    while i < m {
-        let r = rs[i];
-        let start = r.range.start.0;
-        let words = r.range.words;
-        if is_holding(start, words, from, end) {
-            let index = WordIndex(base + words_before(start, from) as usize);
-            return Found::At(Spot {
-                region: i,
-                index,
-                load: r.load,
-                dump: r.dump,
-            });
+    let mut first: usize = 0;
+    let mut left = m;
+    let mut compared: usize = 1;
+    while 1 < left {
+        let half = left / 2;
+        let middle = rs[first + half - 1];
+        compared += 1;
+        if end_of(middle.range.start.0, middle.range.words) < end {
+            first += half;
         }
-        base += r.range.words as usize;
+        left -= half;
+    }
+    let r = rs[first];
+    if is_holding(r.range.start.0, r.range.words, from, end) {
+        return Searched {
+            region: first,
+            compared,
+        };
+    }
+    Searched {
+        region: m,
+        compared,
+    }
+}
+
+// The words of the first k regions.
+fn words_below(rs: [Region; 16], k: usize) -> usize
+    requires { ⌜ k ≤ 16 ⌝ }
+    ensures { λ w. ⌜ (w ≡ wordsBelow rs k) × (w ≤ 4294967296 * k) ⌝ }
+{
+    let mut total: usize = 0;
+    let mut i: usize = 0;
+    while i < k {
+        let r = rs[i];
+        total += r.range.words as usize;
         i += 1;
     }
-    Found::Missed(Refusal::OutsideRegions)
+    total
 }
+
+// The region that holds the range whole, and where the range begins in the image.
+pub fn find_region(rs: [Region; 16], n: usize, a: Range) -> Found
+    ensures { λ f. ⌜ f ≡ findByHalving rs (min n 16) a ⌝ }
+{
+    let searched = region_of(rs, n, a);
+    let k = searched.region;
+    if entries(n) <= k {
+        return Found::Missed(Refusal::OutsideRegions);
+    }
+    let r = rs[k];
+    let below = words_below(rs, k);
+    let before = words_before(r.range.start.0, a.start.0) as usize;
+    let at = below + before;
+    Found::At(Spot {
+        region: k,
+        index: WordIndex(at),
+        load: r.load,
+        dump: r.dump,
+    })
+}
+
+// THE LAW, and examples. These functions do nothing: the contract of each is what is proved.
+
+// In a table by the rules the search by halving finds the region of paper 01.
+pub fn search_is_right()
+    ensures { λ r. ⌜ ((rs : List Region) (n : ℕ) (a : Range) → tableRules rs n ≡ true → RightInOrder rs n a) ⌝ }
+{}
+
+pub fn search_examples()
+    ensures { λ r. ⌜ SearchExamples ⌝ }
+{}

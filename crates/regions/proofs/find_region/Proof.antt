@@ -1,107 +1,57 @@
 -- `regions::find_region` meets its contract.
 -- Assumes nothing.
-use mathlib.Core.Path.{_≡_, sym, _∙_}
-use mathlib.Core.Bool.{false}
-use Prim.Native.Nat.{_*_, _-_, _≤_}
-use Rattle.lists.specs.Below.{anyBelow}
-use Rattle.lists.proofs.Below.{none-more}
-use Rattle.rules.specs.Regions.{wordsBelow}
-use Rattle.regions.proofs.Steps.{held, words-more, found-at, found-none}
 use borrow.Author.Needs.{needs}
+use Rattle.regions.proofs.Steps.{found-none, found-at}
 use Rattle.regions.proofs.find_region.Statement.{statement}
 use Rattle.regions.proofs.find_region.Tie as tie
 
-abbrev Inv-loop : tie.InvT-loop
-Inv-loop n rs m from end base₀ i₀ base i =
-    (i ≤ m) × (anyBelow (held rs from end) i ≡ false) × (base ≡ wordsBelow rs i) × (base ≤ 4294967296 * i)
+region-of-requires : tie.Need-region-of-requires
+region-of-requires c κs = search needs
 
-abbrev μ-loop : tie.MeasureT-loop
-μ-loop n rs m from end base₀ i₀ base i = m - i
-
-entries-requires : tie.Need-entries-requires Inv-loop μ-loop
+entries-requires : tie.Need-entries-requires
 entries-requires c κs = search needs
 
-end-of-requires : tie.Need-end-of-requires Inv-loop μ-loop
-end-of-requires c κs = search needs
+returns : tie.Need-returns
+returns c =
+    let a = c .before .before .before .args in
+    found-none (a .t1) _ (a .a) _ (c .before .before .region-of .ensures .0) (rw (c .before .entries .ensures) at (c .if1 .taken))
 
-loop-holds : tie.Need-loop-holds Inv-loop μ-loop
-unfolding wordsBelow
-loop-holds c = search needs
-
-mul-r : tie.Need-mul-r Inv-loop μ-loop
+mul-r : tie.Need-mul-r
 mul-r c = search needs
 
-array-copy-out-r : tie.Need-array-copy-out-r Inv-loop μ-loop
+array-copy-out-r : tie.Need-array-copy-out-r
 array-copy-out-r c = search needs
 
-is-holding-requires : tie.Need-is-holding-requires Inv-loop μ-loop
-is-holding-requires c κs = search needs
+words-below-requires : tie.Need-words-below-requires
+words-below-requires c κs = search needs
 
-words-before-requires : tie.Need-words-before-requires Inv-loop μ-loop
+words-before-requires : tie.Need-words-before-requires
 words-before-requires c κs = search needs
 
-cast-t21 : tie.Need-cast-t21 Inv-loop μ-loop
-cast-t21 c = search needs
+cast-before : tie.Need-cast-before
+cast-before c = search needs
 
-add-t22 : tie.Need-add-t22 Inv-loop μ-loop
-add-t22 c = search needs
+add-at : tie.Need-add-at
+add-at c = search needs
 
-returns : tie.Need-returns Inv-loop μ-loop
-returns c =
-    let l = c .before .before .before .before .before in
-    let a = l .before .before .before .args in
-    rw (← l .before .before .entries .ensures)
-    (found-at (a .t1) _ (a .a) _ (l .before .end-of .ensures) (l .loop .i) (c .before .before .before .before .loop-test .taken)
-    (sym (c .before .before .is-holding .ensures) ∙ c .before .if1 .taken) (l .loop .inv .1) _ _ (l .loop .inv .2) (c .words-before .ensures))
-
-cast-base : tie.Need-cast-base Inv-loop μ-loop
-cast-base c = search needs
-
-add-base : tie.Need-add-base Inv-loop μ-loop
-add-base c = search needs
-
-add-i : tie.Need-add-i Inv-loop μ-loop
-add-i c = search needs
-
-loop-less : tie.Need-loop-less Inv-loop μ-loop
-loop-less c = search needs
-
-loop-again : tie.Need-loop-again Inv-loop μ-loop
-loop-again c =
-    let l = c .before .before .before .before .before in
-    let a = l .before .before .before .args in (
-      search needs,
-      none-more _ (l .loop .i) (l .loop .inv .1) (sym (c .before .before .is-holding .ensures) ∙ c .before .if1 .left),
-      rw (l .loop .inv .2) (words-more (a .t1) (l .loop .i)),
-      search needs,
-    )
-
-returns-2 : tie.Need-returns-2 Inv-loop μ-loop
+returns-2 : tie.Need-returns-2
 returns-2 c =
-    let l = c .before in
-    let a = l .before .before .before .args in
-    rw (← l .before .before .entries .ensures)
-    (found-none (a .t1) _ (a .a) _ (l .before .end-of .ensures) (l .loop .i) (l .loop .inv .0) (c .loop-test .left) (l .loop .inv .1))
+    let e = c .before .before .before in
+    let a = e .before .before .before .args in
+    found-at (a .t1) _ (a .a) _ (e .before .before .region-of .ensures .0) (rw (e .before .entries .ensures) at (e .if1 .left)) _ _
+    (c .before .words-below .ensures .0) (c .words-before .ensures)
 
 pub find-region-spec : {M : Type 1} → statement M
 find-region-spec =
     tie.close
     (tie.spec
-    Inv-loop
-    μ-loop
+    region-of-requires
     entries-requires
-    end-of-requires
-    loop-holds
+    returns
     mul-r
     array-copy-out-r
-    is-holding-requires
+    words-below-requires
     words-before-requires
-    cast-t21
-    add-t22
-    returns
-    cast-base
-    add-base
-    add-i
-    loop-less
-    loop-again
+    cast-before
+    add-at
     returns-2)
