@@ -23,8 +23,8 @@ use Rattle.batches.proofs.Lists.{packet-bytes}
 use Rattle.block.specs.Blocks.{word, blockOf, isBlock, stateOf}
 use Rattle.block.specs.Calls.{CallLeft}
 use Rattle.block.proofs.GoodFits.{good-fits}
-use Rattle.lent_command.specs.Batches.{onBlock, lgCommands}
-use Rattle.lent_command.proofs.Kept.{within}
+use Rattle.lent_batch.specs.Batches.{onBlock, lgCommands}
+use Rattle.lent_batch.proofs.Kept.{within}
 use Rattle.c_theorems.specs.BatchesFromC.{inBlock, BatchesFromC}
 use Rattle.c_theorems.proofs.FromC.{on-block, other, bad-command}
 

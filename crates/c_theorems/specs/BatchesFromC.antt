@@ -13,7 +13,7 @@ use Rattle.batches.specs.Batch.{BatchArgs, lends, onState, itemsOf, bytesFrom, 
 use Rattle.batches.specs.InOrder.{InOrder}
 use Rattle.block.specs.Blocks.{blockOf, isBlock, stateOf}
 use Rattle.block.specs.Calls.{lgCommand}
-use Rattle.lent_command.specs.Batches.{onBlock, lgCommands}
+use Rattle.lent_batch.specs.Batches.{onBlock, lgCommands}
 
 -- what a batch on a state leaves, with the block of its state
 abbrev pub inBlock : Batch State → Batch (List ℕ)

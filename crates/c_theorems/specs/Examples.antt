@@ -8,7 +8,7 @@ use Rattle.rules.specs.declared.Refusal.the-variants.{BufferLength}
 use Rattle.rules.specs.declared.Verdict.the-variants.{Accepted, Rejected}
 use Rattle.batches.specs.Batch.{BatchArgs, lends}
 use Rattle.block.specs.Calls.{CallLeft, lgStartUp, lgSlot, lgCommand}
-use Rattle.lent_command.specs.Batches.{lgCommands}
+use Rattle.lent_batch.specs.Batches.{lgCommands}
 use Rattle.capi.specs.Commands.{lgWriteCommand, lgReadCommand, lgReadPacket}
 
 -- unit 2, three regions: at 1000 hex 4 words with load right, at 2000 hex 6 with dump right, at 3000 hex 1,020 with both; pool 0 is the second

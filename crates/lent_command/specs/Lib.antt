@@ -1,2 +1,1 @@
 pub mod OnBlock
-pub mod Batches

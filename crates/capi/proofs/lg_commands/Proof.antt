@@ -55,11 +55,11 @@ use Rattle.answers.proofs.number_of.Symbol.{name as #answers·number-of}
 use Rattle.answers.proofs.number_of.Met as number-of-thm
 use Rattle.rules.specs.Results.{verdictNumber}
 use Rattle.batches.specs.Batch.{lends, Batch, LeftAs, Answers}
-use Rattle.lent_command.specs.Batches.{lgCommands}
-use Rattle.lent_command.proofs.answered as core
-use Rattle.lent_command.proofs.answered.Symbol as core-def
-use Rattle.lent_command.proofs.answered.Symbol.{name as #core}
-use Rattle.lent_command.proofs.answered.Met as core-thm
+use Rattle.lent_batch.specs.Batches.{lgCommands}
+use Rattle.lent_batch.proofs.answered as core
+use Rattle.lent_batch.proofs.answered.Symbol as core-def
+use Rattle.lent_batch.proofs.answered.Symbol.{name as #core}
+use Rattle.lent_batch.proofs.answered.Met as core-thm
 use Rattle.capi.proofs.lg_commands.Key.{name as #capi·lg-commands}
 use Rattle.capi.proofs.lg_commands as lg
 use Rattle.capi.proofs.lg_commands.Statement as stated
@@ -331,6 +331,6 @@ lg-commands-spec 𝓤 H 𝓜 𝓖 𝓡 =
     entered 𝓤 H (tripleOf 𝓤 H (𝓖 .A) lg.signature (lg.spec 𝓤 H (𝓖 .A) (𝓜 .mem) (𝓡 .run)))
     (tables 𝓤 H 𝓜 𝓡 code.env .C) (tables 𝓤 H 𝓜 𝓡 code.env .Λ) #capi·lg-commands code.function (code.unfolded 𝓤 H 𝓜 𝓡)
     (lg-meets 𝓤 H (𝓖 .A) (givenOf 𝓤 H 𝓜 𝓖) (𝓜 .mem) (𝓡 .run) (tablesOf 𝓤 H 𝓜 (tables 𝓤 H 𝓜 𝓡 code.env))
-    (cited 𝓤 H (Core 𝓤 H (𝓖 .A) (𝓜 .mem) (𝓡 .run)) 𝓜 𝓡 code.env #core core-def.routine code.calls-lent-command·answered (core-thm.met 𝓤 H 𝓜 𝓖 𝓡))
+    (cited 𝓤 H (Core 𝓤 H (𝓖 .A) (𝓜 .mem) (𝓡 .run)) 𝓜 𝓡 code.env #core core-def.routine code.calls-lent-batch·answered (core-thm.met 𝓤 H 𝓜 𝓖 𝓡))
     (cited 𝓤 H (Put 𝓤 H (𝓖 .A) (𝓜 .mem) (𝓡 .run)) 𝓜 𝓡 code.env #answers·put-records put-def.routine code.calls-answers·put-records (put-thm.met 𝓤 H 𝓜 𝓖 𝓡))
     (cited 𝓤 H (NumberOf 𝓤 H (𝓖 .A) (𝓜 .mem) (𝓡 .run)) 𝓜 𝓡 code.env #answers·number-of number-of-def.routine code.calls-answers·number-of (number-of-thm.met 𝓤 H 𝓜 𝓖 𝓡)))

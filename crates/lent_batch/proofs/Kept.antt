@@ -27,7 +27,7 @@ use Rattle.block.proofs.Back.{state-back, block-good}
 use Rattle.block.proofs.Forth.{block-forth}
 use Rattle.block.proofs.GoodFits.{good-fits}
 use Rattle.block.proofs.Runs.{runs-length}
-use Rattle.lent_command.specs.Batches.{onBlock}
+use Rattle.lent_batch.specs.Batches.{onBlock}
 
 module _ (b : List ℕ) (c : CommandArgs) where
   abbrev after : State

@@ -1,4 +1,4 @@
--- `lent_command::names_symbol` ends, and reads within the lists: its measure is the items left.
+-- `lent_batch::names_symbol` ends, and reads within the lists: its measure is the items left.
 -- Assumes nothing.
 use Prim.Native.Nat.{_-_, _<_}
 use lib.Dec.{ltb}
@@ -6,8 +6,8 @@ use lib.ListN.{length}
 use borrow.Author.Needs.{needs}
 use borrow.Author.Tests.{ltb-true}
 use Rattle.lists.proofs.Tests.{and-left, and-right}
-use Rattle.lent_command.proofs.names_symbol.Statement.{statement}
-use Rattle.lent_command.proofs.names_symbol.Tie as tie
+use Rattle.lent_batch.proofs.names_symbol.Statement.{statement}
+use Rattle.lent_batch.proofs.names_symbol.Tie as tie
 
 abbrev Inv-loop : tie.InvT-loop
 Inv-loop bytes starts lengths i₀ i = Unit {0}

@@ -1,4 +1,4 @@
--- `lent_command::item` meets its contract: what `tested` says of the item's part of the reply buffer, a number and a length that fit a byte, and a block that
+-- `lent_batch::item` meets its contract: what `tested` says of the item's part of the reply buffer, a number and a length that fit a byte, and a block that
 -- the good test says the same of.
 -- Assumes nothing.
 use mathlib.Core.Path.{_≡_, ap, _∙_}
@@ -8,11 +8,11 @@ use lib.ListN.{take, drop}
 use Rattle.rules.specs.Commands.{CommandArgs}
 use Rattle.batches.proofs.Items.{item-done}
 use Rattle.block.specs.Calls.{goodWords}
-use Rattle.lent_command.specs.Batches.{onBlock}
-use Rattle.lent_command.proofs.Kept.{within, words-kept}
+use Rattle.lent_batch.specs.Batches.{onBlock}
+use Rattle.lent_batch.proofs.Kept.{within, words-kept}
 use borrow.Author.Needs.{needs}
-use Rattle.lent_command.proofs.item.Statement.{statement}
-use Rattle.lent_command.proofs.item.Tie as tie
+use Rattle.lent_batch.proofs.item.Statement.{statement}
+use Rattle.lent_batch.proofs.item.Tie as tie
 
 mul-from : tie.Need-mul-from
 mul-from c = search needs

@@ -1,12 +1,12 @@
--- `lent_command::known_for` meets its contract.
+-- `lent_batch::known_for` meets its contract.
 -- Assumes nothing.
 use mathlib.Core.Path.{subst⁻¹}
 use borrow.Author.Needs.{needs}
 use Rattle.symbols.specs.Answers.{KnownOf}
 use Rattle.symbols.specs.declared.Known.{Known}
 use Rattle.symbols.proofs.Logic.{known-right}
-use Rattle.lent_command.proofs.known_for.Statement.{statement}
-use Rattle.lent_command.proofs.known_for.Tie as tie
+use Rattle.lent_batch.proofs.known_for.Statement.{statement}
+use Rattle.lent_batch.proofs.known_for.Tie as tie
 
 names-symbol-requires : tie.Need-names-symbol-requires
 names-symbol-requires c κs = search needs

@@ -1,4 +1,4 @@
--- `lent_command::answered` meets its contract: the two arrays begin with the numbers and the lengths of the answers.
+-- `lent_batch::answered` meets its contract: the two arrays begin with the numbers and the lengths of the answers.
 -- Assumes nothing.
 use mathlib.Core.Path.{refl, ap, _∙_}
 use lib.ListN.{replicate}
@@ -6,9 +6,9 @@ use borrow.Author.Needs.{needs}
 use Rattle.rules.specs.Results.{verdictNumber}
 use Rattle.batches.specs.Batch.{lends}
 use Rattle.batches.proofs.Whole.{room-long, given, not-given}
-use Rattle.lent_command.specs.Batches.{onBlock}
-use Rattle.lent_command.proofs.answered.Statement.{statement}
-use Rattle.lent_command.proofs.answered.Tie as tie
+use Rattle.lent_batch.specs.Batches.{onBlock}
+use Rattle.lent_batch.proofs.answered.Statement.{statement}
+use Rattle.lent_batch.proofs.answered.Tie as tie
 
 lesser-requires : tie.Need-lesser-requires
 lesser-requires c κs = search needs

@@ -1,4 +1,4 @@
--- `lent_command::run` meets its contract. The loop's invariant: items 0 to i - 1 left what is there (`Upto`), and the good test says of the block what it
+-- `lent_batch::run` meets its contract. The loop's invariant: items 0 to i - 1 left what is there (`Upto`), and the good test says of the block what it
 -- said at the start; its measure is the items left.
 -- Assumes nothing.
 use mathlib.Core.Path.{_≡_, refl, sym, _∙_}
@@ -10,9 +10,9 @@ use Rattle.batches.specs.Batch.{BatchArgs, lends}
 use Rattle.batches.specs.InOrder.{Fits}
 use Rattle.batches.proofs.Turns.{fits, Upto, starts, turn, all}
 use Rattle.block.specs.Calls.{goodWords}
-use Rattle.lent_command.specs.Batches.{onBlock}
-use Rattle.lent_command.proofs.run.Statement.{statement}
-use Rattle.lent_command.proofs.run.Tie as tie
+use Rattle.lent_batch.specs.Batches.{onBlock}
+use Rattle.lent_batch.proofs.run.Statement.{statement}
+use Rattle.lent_batch.proofs.run.Tie as tie
 
 abbrev Inv-loop : tie.InvT-loop
 Inv-loop b₀ bytes starts lengths symbols image₀ replies₀ numbers₀ sizes₀ words known i₀ b image replies numbers sizes i =

@@ -1,11 +1,11 @@
--- `lent_command::commands` meets its contract: the verdict says which of the two cases of the definition it is.
+-- `lent_batch::commands` meets its contract: the verdict says which of the two cases of the definition it is.
 -- Assumes nothing.
 use borrow.Author.Needs.{needs}
 use Rattle.batches.specs.Batch.{BatchArgs, lends}
 use Rattle.batches.proofs.Whole.{fits, refused, accepted}
-use Rattle.lent_command.specs.Batches.{onBlock}
-use Rattle.lent_command.proofs.commands.Statement.{statement}
-use Rattle.lent_command.proofs.commands.Tie as tie
+use Rattle.lent_batch.specs.Batches.{onBlock}
+use Rattle.lent_batch.proofs.commands.Statement.{statement}
+use Rattle.lent_batch.proofs.commands.Tie as tie
 
 -- the function's entry, and what it was lent
 abbrev start : tie.After-batch-verdict → tie.Start
