@@ -54,7 +54,7 @@ module _ (rs : List Region) (n : ℕ) where
 module _ (rs : List Region) (n : ℕ) (a : Range) where
   -- in a table by the rules the search by halving finds what the table says
   pub found-in-order : {f : Found} → f ≡ findByHalving rs (min n 16) a → tableRules rs n ≡ true → f ≡ findRegion rs n a
-  found-in-order e rules = rw (min-eq-left {n = n} {m = 16} (table-count rs n rules .1)) at e ∙ right-in-order rs n rules a .found
+  found-in-order e rules = rw (min-eq-left {n = n} {m = 16} (table-count rs n rules .1)) at e ∙ right-in-order rs n a rules .1
 
   -- a range of a table by the rules lies in one region at most, so the right of the region found decides
   pub can-dump-found : tableRules rs n ≡ true → 1 ≤ a .words → canDump (findRegion rs n a) ≡ inOneRegion dumpRight rs n a

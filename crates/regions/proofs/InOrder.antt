@@ -135,8 +135,8 @@ module _ (rs : List Region) (n : ℕ) (rules : tableRules rs n ≡ true) (a : Ra
       (λ h. let r = first-found (holds anyRight rs a) n h in rw (h, lt-ltb (regionOf rs n a) n (r .0)))
       (λ h. rw (h, first-none (holds anyRight rs a) n h, le-ltb n n (omega arith))))
 
-  pub right-in-order : RightInOrder rs n a
-  right-in-order = record { region = in-order; found = found-right }
+pub right-in-order : RightInOrder
+right-in-order rs n a rules = (in-order rs n rules a, found-right rs n rules a)
 
 -- AT MOST FIVE
 

@@ -148,7 +148,7 @@ module _ (rs : List Region) (m : ℕ) (a : Range) (end : ℕ) (ee : end ≡ endO
   unfolding regionByHalving
   region-none h = rw (is-left, sym held-is ∙ h)
 
--- THE LOOKUP, by the region that was regionByHalving
+-- THE LOOKUP, by the region that the search gave
 module _ (rs : List Region) (m : ℕ) (a : Range) (k : ℕ) (ek : k ≡ regionByHalving rs m a) where
   pub found-none : m ≤ k → Missed OutsideRegions ≡ findByHalving rs m a
   unfolding findByHalving

