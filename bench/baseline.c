@@ -254,7 +254,7 @@ static inline uint32_t pool_figures(const uint32_t *restrict block, uint32_t wor
     }
     put32(reply + 12, free_words);
     put32(reply + 16, free_blocks);
-    put32(reply + 20, largest);
+    put32(reply + 20, largest - (largest > 0));
     put32(reply + 24, words - free_words);
     put32(reply + 28, blocks - free_blocks);
     return 0;

@@ -81,8 +81,13 @@ static void load(void)
 static void pool(void)
 {
     const uint32_t command[LG_COMMAND_WORDS] = { 7, 3, UNIT, 79 };
-    image[2000] = 8;                            /* one block of eight words */
+    image[2000] = 8;                            /* one free block of eight words, seven of them usable */
     expect("pool statistics", send("pool statistics", command), 0);
+    expect("free words", big_endian(reply + 12), 8);
+    expect("free blocks", big_endian(reply + 16), 1);
+    expect("usable in the largest free block", big_endian(reply + 20), 7);
+    expect("used words", big_endian(reply + 24), 0);
+    expect("used blocks", big_endian(reply + 28), 0);
     image[2000] = 9;                            /* a block that runs past the pool */
     expect("damaged pool", send("pool statistics, damaged", command), 15);
 }
@@ -141,7 +146,8 @@ static void batch(void)
     expect("its word", image[2000], 0x80000008);
     expect("pool statistics", answers[1].number, 0);
     expect("its reply", answers[1].length, 32);
-    expect("used words", big_endian(replies + 32 + 24), 8);                /* as the load before it left the pool */
+    expect("usable in the largest free block", big_endian(replies + 32 + 20), 0);     /* as the load before it left the pool: no block is free */
+    expect("used words", big_endian(replies + 32 + 24), 8);
     expect("damaged packet", answers[2].number, 4);
     expect("its reply", answers[2].length, 0);
     expect("item past the end", answers[3].number, 4);

@@ -50,7 +50,19 @@ uint32_t lg_start_up(const uint32_t *table, size_t table_words, uint32_t *state,
 
 /* Numbers 0 to 15, 17 and 18. For codes 8 and 9 the order of the tests is 1 to 8; 17 if `symbols` is no table; 9 for the name's size, the pad and the
  * zero bits; 18 if the table has no such name; and for code 9 then 9 for the address and size, and 10 to 13. `reply` has at least 32 bytes for every
- * command, else 3. `reply_length` is set to the bytes written to it: 32 after pool statistics, 12 after the value of a symbol, else 0. */
+ * command, else 3. `reply_length` is set to the bytes written to it: 32 after pool statistics, 12 after the value of a symbol, else 0.
+ *
+ * Both replies are telemetry packets: 6 bytes of primary header, then unit and transaction in bytes 6 and 7. Numbers are big-endian.
+ * Pool statistics, APID 785:
+ *   8, 9     pool; 10 and 11 are zero
+ *   12..15   free words, the first words of blocks included
+ *   16..19   free blocks
+ *   20..23   usable words of the largest free block: its size minus one, since its first word isn't usable; 0 if no block is free,
+ *            and also if each free block has one word
+ *   24..27   used words, first words included; free and used words add up to the pool's size
+ *   28..31   used blocks
+ * Value of a symbol, APID 786:
+ *   8..11    the value */
 uint32_t lg_command(uint32_t *state, size_t state_words, const uint8_t *packet, size_t packet_bytes, const uint8_t *symbols, size_t symbols_bytes,
                     uint32_t *image, size_t image_words, uint8_t *reply, size_t reply_bytes, uint32_t *reply_length);
 

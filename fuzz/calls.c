@@ -1,7 +1,7 @@
 /* Hostile input for the exported calls. An input is a list of steps on one state block, one image and one symbol table; each step is a byte that
  * names it, then what it takes. Every lent buffer is a heap block of its own, just as long as is said to the call, so that AddressSanitizer has
  * red zones at both ends; the library's own code is instrumented too (fuzz/run). Beside that, each call's refusals are held to the header: the
- * number is one of the call's, and a refusal leaves every lent buffer as it was. */
+ * number is one of the call's, and a refusal leaves every lent buffer as it was; and so are a batch, the packet of a slot and a pool's figures. */
 #include "../c/leatgarnet.h"
 #include <stdlib.h>
 #include <string.h>
@@ -117,6 +117,23 @@ static int can_get(const uint8_t *packet, size_t bytes, uint32_t number, uint32_
     return length == 0 && (number <= 15 || ((number == 17 || number == 18) && (code == 8 || code == 9)));
 }
 
+static uint64_t number_at(const uint8_t *p)
+{
+    return (uint64_t)p[0] << 24 | (uint64_t)p[1] << 16 | (uint64_t)p[2] << 8 | p[3];
+}
+
+/* Whether a pool can have the figures of a reply: free and used words are the pool; the largest free block has its usable words and one more, and
+ * each other free block at least one word and no more than the largest; where no block is free or used, no word is. */
+static int figures_can_be(const uint8_t *reply, const uint32_t *s)
+{
+    uint64_t free_words = number_at(reply + 12), free_blocks = number_at(reply + 16), usable = number_at(reply + 20);
+    uint64_t used_words = number_at(reply + 24), used_blocks = number_at(reply + 28);
+    uint32_t pool = reply[9];
+    int by_free = free_blocks == 0 ? free_words + usable == 0 : free_blocks + usable <= free_words && free_words <= free_blocks * (usable + 1);
+    int by_used = used_blocks <= used_words && (used_blocks == 0) == (used_words == 0);
+    return pool <= 1 && free_words + used_words == s[50 + 2 * pool] && by_free && by_used;
+}
+
 static void command(int right)
 {
     struct lent packet = bytes(byte()), reply = lend(near(32));
@@ -128,6 +145,7 @@ static void command(int right)
                                  reply.now, reply.bytes, &length);
     must(can_get(packet.now, packet.bytes, number, length));
     must(same(packet) && same(symbols));
+    must(length != 32 || figures_can_be(reply.now, state.now));
     must(length <= reply.bytes && memcmp((uint8_t *)reply.before + length, (uint8_t *)reply.now + length, reply.bytes - length) == 0);
     must(number == 0 || same(image));
     if (number != 0 && state.bytes == 4 * LG_STATE_WORDS) {

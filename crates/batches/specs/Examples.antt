@@ -69,7 +69,7 @@ pub record BatchExamples : Type 0 where
   pub figures-replies : (w x y z : ℕ) → figures w x y z .replies
       ≡ replicate 32 9
       ++ (0x03 ∷ 0x11 ∷ 0xC0 ∷ 0x00 ∷ 0x00 ∷ 0x19 ∷ 0x21 ∷ 0x23 ∷ 0x00 ∷ 0x01 ∷ 0x00 ∷ 0x00
-      ∷ 0 ∷ 0 ∷ 0 ∷ 4 ∷ 0 ∷ 0 ∷ 0 ∷ 1 ∷ 0 ∷ 0 ∷ 0 ∷ 4 ∷ 0 ∷ 0 ∷ 0 ∷ 2 ∷ 0 ∷ 0 ∷ 0 ∷ 1 ∷ [])
+      ∷ 0 ∷ 0 ∷ 0 ∷ 4 ∷ 0 ∷ 0 ∷ 0 ∷ 1 ∷ 0 ∷ 0 ∷ 0 ∷ 3 ∷ 0 ∷ 0 ∷ 0 ∷ 2 ∷ 0 ∷ 0 ∷ 0 ∷ 1 ∷ [])
       ++ 9 ∷ []
   -- of four lent answer records the first two are written; and as numbers and lengths apart
   pub figures-records : (w x y z : ℕ) → filled (replicate 4 (answer 9 9)) (figures w x y z .answers) ≡ answer 0 0 ∷ answer 0 32 ∷ answer 9 9 ∷ answer 9 9 ∷ []

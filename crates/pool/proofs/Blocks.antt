@@ -9,7 +9,7 @@ use lib.ListN.{length, drop, getD, length-drop, drop-of-length-le}
 use lib.Seq.{drop-cons, drop-drop}
 use borrow.Author.Tests.{ne-eqb}
 use Rattle.lists.proofs.Tests.{either}
-use Rattle.rules.specs.Pools.{Block, blockOf, Walk, damaged, whole, after, blocksFrom}
+use Rattle.rules.specs.Pools.{Block, blockOf, Walk, damaged, whole, after, blocksFrom, isFree, largest}
 use Rattle.pool.specs.declared.Figures.{Figures}
 use Rattle.pool.specs.declared.Tally.{Tally}
 use Rattle.pool.specs.declared.Walked.{Walked}
@@ -24,7 +24,7 @@ together f g =
     record {
       free = f .free + g .free;
       freeblocks = f .freeblocks + g .freeblocks;
-      largest = max (f .largest) (g .largest);
+      usable = max (f .usable) (g .usable);
       used = f .used + g .used;
       usedblocks = f .usedblocks + g .usedblocks;
     }
@@ -34,16 +34,29 @@ abbrev pub counted : Figures → Block → Figures
 counted f b = together f (figuresOf (b ∷ []))
 
 same-figures : {f g : Figures}
-    → (f .free ≡ g .free) × (f .freeblocks ≡ g .freeblocks) × (f .largest ≡ g .largest) × (f .used ≡ g .used) × (f .usedblocks ≡ g .usedblocks) → f ≡ g
-same-figures e = λ i. record { free = e .0 i; freeblocks = e .1 i; largest = e .2 i; used = e .3 i; usedblocks = e .4 i }
+    → (f .free ≡ g .free) × (f .freeblocks ≡ g .freeblocks) × (f .usable ≡ g .usable) × (f .used ≡ g .used) × (f .usedblocks ≡ g .usedblocks) → f ≡ g
+same-figures e = λ i. record { free = e .0 i; freeblocks = e .1 i; usable = e .2 i; used = e .3 i; usedblocks = e .4 i }
 
 pub same-tally : {t u : Tally} → (t .free ≡ u .free) × (t .freeblocks ≡ u .freeblocks) × (t .largest ≡ u .largest) × (t .blocks ≡ u .blocks) → t ≡ u
 same-tally e = λ i. record { free = e .0 i; freeblocks = e .1 i; largest = e .2 i; blocks = e .3 i }
 
+-- one is taken off the larger of two, or off each
+each-less : (k l : ℕ) → max k l - 1 ≡ max (k - 1) (l - 1)
+each-less k l = omega arith
+
+larger-of-three : (k l m : ℕ) → max k (max l m) ≡ max (max k l) m
+larger-of-three k l m = omega arith
+
 -- one more block is counted first, or with the others
 counted-first : (f : Figures) (b : Block) (bs : List Block) → together f (figuresOf (b ∷ bs)) ≡ together (counted f b) (figuresOf bs)
 unfolding together
-counted-first f b bs = same-figures (omega arith)
+counted-first f b bs =
+    let first = largest isFree (b ∷ []) in
+    let rest = largest isFree bs in
+    let e : largest isFree (b ∷ bs) ≡ max first rest = omega arith in
+    let third : max (f .usable) (largest isFree (b ∷ bs) - 1) ≡ max (max (f .usable) (first - 1)) (rest - 1) =
+    rw (e, each-less first rest) (larger-of-three (f .usable) (first - 1) (rest - 1)) in
+    same-figures (omega arith, omega arith, third, omega arith, omega arith)
 
 none-together : (f : Figures) → together (figuresOf []) f ≡ f
 unfolding together
@@ -55,7 +68,7 @@ together-none f = same-figures (omega arith)
 
 -- the figures that a tally tells once `at` words are passed: what is not free is used
 abbrev pub told : Tally → ℕ → Figures
-told t at = record { free = t .free; freeblocks = t .freeblocks; largest = t .largest; used = at - t .free; usedblocks = t .blocks - t .freeblocks }
+told t at = record { free = t .free; freeblocks = t .freeblocks; usable = t .largest - 1; used = at - t .free; usedblocks = t .blocks - t .freeblocks }
 
 module _ (t : Tally) (b : Block) (at : ℕ) (words : t .free ≤ at) (blocks : t .freeblocks ≤ t .blocks) where
   pub told-next : told (tallied t b) (at + b .size) ≡ counted (told t at) b

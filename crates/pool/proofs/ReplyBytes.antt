@@ -31,7 +31,7 @@ low-words (x ∷ xs) = ap₂ (λ (l m : List ℕ). l ++ m) (be-modulo 4 x) (low-
 
 module _ (count unit transaction pool : ℕ) (f : Figures) (sequence : 49152 + count < 65536) (who : 4096 * unit + transaction < 65536) where
   abbrev figures : List ℕ
-  figures = f .free ∷ f .freeblocks ∷ f .largest ∷ f .used ∷ f .usedblocks ∷ []
+  figures = f .free ∷ f .freeblocks ∷ f .usable ∷ f .used ∷ f .usedblocks ∷ []
 
   pub reply-as-words : wordBytes ((785 * 65536 + (49152 + count)) ∷ (25 * 65536 + (4096 * unit + transaction)) ∷ (pool * 65536) ∷ lows figures)
       ≡ figureBytes count unit transaction pool f

@@ -3,7 +3,7 @@ use mathlib.Core.List.{List, [], _∷_, _++_}
 use Prim.Native.Nat.{ℕ, _+_, max}
 use Rattle.wire.specs.Bytes.{be}
 use Rattle.rules.specs.Packets.{primaryHeader, identity}
-use Rattle.rules.specs.Pools.{Block, Walk, damaged, whole, isFree, isUsed, words, blocks, largest, replyApid, replyLength}
+use Rattle.rules.specs.Pools.{Block, Walk, damaged, whole, isFree, isUsed, words, blocks, largest, usable, replyApid, replyLength}
 use Rattle.pool.specs.declared.Figures.{Figures}
 use Rattle.pool.specs.declared.Tally.{Tally}
 use Rattle.pool.specs.declared.Walked.{Walked}
@@ -14,7 +14,7 @@ figuresOf bs =
     record {
       free = words isFree bs;
       freeblocks = blocks isFree bs;
-      largest = largest isFree bs;
+      usable = usable isFree bs;
       used = words isUsed bs;
       usedblocks = blocks isUsed bs;
     }
@@ -37,6 +37,6 @@ tallied t b =
 
 unfoldable pub figureBytes : ℕ → ℕ → ℕ → ℕ → Figures → List ℕ
 figureBytes count unit transaction pool f =
-    primaryHeader 0 0 replyApid count replyLength ++ identity unit transaction ++ be 2 pool ++ be 2 0 ++ be 4 (f .free) ++ be 4 (f .freeblocks) ++ be 4 (f .largest)
+    primaryHeader 0 0 replyApid count replyLength ++ identity unit transaction ++ be 2 pool ++ be 2 0 ++ be 4 (f .free) ++ be 4 (f .freeblocks) ++ be 4 (f .usable)
     ++ be 4 (f .used)
     ++ be 4 (f .usedblocks)

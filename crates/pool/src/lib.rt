@@ -1,7 +1,7 @@
 // The walk over a pool's blocks, and the bytes of the reply that tells its figures.
 ghost use mathlib.Core.Path.{_≡_};
 ghost use mathlib.Core.Bool.{cond};
-ghost use Prim.Native.Nat.{_+_, _%_, _≤_, _<_};
+ghost use Prim.Native.Nat.{_+_, _-_, _%_, _≤_, _<_};
 ghost use lib.ListN.{length};
 ghost use Rattle.lists.specs.Splice.{splice};
 ghost use Rattle.wire.specs.Bytes.{wordBytes};
@@ -9,11 +9,11 @@ ghost use Rattle.rules.specs.Pools.{blockOf, blocksOf};
 ghost use Rattle.pool.specs.Answers.{tallied, walkedOf, figureBytes};
 use wire::put_words;
 
-// Free words, free blocks, size of the largest free block; used words, used blocks.
+// Free words, free blocks, usable words of the largest free block; used words, used blocks.
 pub struct Figures {
     pub free: usize,
     pub freeblocks: usize,
-    pub largest: usize,
+    pub usable: usize,
     pub used: usize,
     pub usedblocks: usize,
 }
@@ -59,6 +59,16 @@ fn count_block(t: Tally, w: u32) -> Tally
     }
 }
 
+// What the largest free block can hold: its first word isn't usable. 0 if there is none.
+fn usable_words(largest: usize) -> usize
+    ensures { λ r. ⌜ r ≡ largest - 1 ⌝ }
+{
+    if largest == 0 {
+        return 0;
+    }
+    largest - 1
+}
+
 // The figures of a pool's blocks, from the first word of each.
 pub fn walk_pool(pool: &[u32]) -> Walked
     ensures { λ r. ⌜ r ≡ walkedOf (blocksOf (now (pool .entry))) ⌝ }
@@ -82,10 +92,11 @@ pub fn walk_pool(pool: &[u32]) -> Walked
         t = count_block(t, w);
         at = at + size;
     }
+    let usable = usable_words(t.largest);
     Walked::Whole(Figures {
         free: t.free,
         freeblocks: t.freeblocks,
-        largest: t.largest,
+        usable: usable,
         used: at - t.free,
         usedblocks: t.blocks - t.freeblocks,
     })
@@ -103,7 +114,7 @@ fn reply_words(count: u16, unit: u8, transaction: u16, pool: u16, f: Figures) ->
         pool as u32 * 65536,
         (f.free % 4294967296) as u32,
         (f.freeblocks % 4294967296) as u32,
-        (f.largest % 4294967296) as u32,
+        (f.usable % 4294967296) as u32,
         (f.used % 4294967296) as u32,
         (f.usedblocks % 4294967296) as u32,
     ]

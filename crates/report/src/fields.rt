@@ -92,7 +92,7 @@ pub fn value(reply: &[u8]) {
 // The five figures of a reply.
 pub fn figures(reply: &[u8]) {
     say(
-        b"\n  free words %, free blocks %, largest free block %",
+        b"\n  free words %, free blocks %, usable in the largest free block %",
         0,
         [
             get32(reply, 12) as u64,

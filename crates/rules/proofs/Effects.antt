@@ -34,7 +34,7 @@ use Rattle.rules.proofs.Table.{holds-any, one-out, one-in, one-any, ima
 use Rattle.rules.proofs.Located.{lies-from, lies-index}
 use Rattle.rules.proofs.Good.{GoodIs, good-out, context-same, context-other}
 use Rattle.rules.proofs.Rules.{StartIs, start-out, pool-out as rules-pool}
-use Rattle.rules.proofs.Pools.{tiles-blocks, tiles-words, figures-fit, reply-figures, reply-head, reply-pool}
+use Rattle.rules.proofs.Pools.{tiles-blocks, tiles-words, figures-fit, figures-are, reply-figures, reply-head, reply-pool}
 use Rattle.rules.proofs.Passed.{Passed, passed-out, accepted-call, tests-of}
 use Rattle.rules.proofs.Allowed.{decode-dump, decode-cancel, decode-load, decode-pool, decode-value, decode-by-name, dump-out, cancel-out, load-out, pool-out, value-out, by-name-out, value-named, range-named, idle-out, idleAt, numberAt}
 
@@ -167,6 +167,7 @@ module _ (s : State) (c : CommandArgs) (h : IsAccepted s c) where
       record {
         found = a .blocks .0;
         tiles = a .blocks .1;
+        figures = figures-are _ _ (a .blocks .1);
         free = figures .0;
         used = figures .1;
         size = tiles-words (a .blocks .1) ∙ pool-length a;

@@ -2,7 +2,7 @@
 -- Assumes nothing.
 use Rattle.rules.specs.Demand2.{Demand2}
 use Rattle.symbols.proofs.Logic.{table-when, resolves-when}
-use Rattle.rules.proofs.Pools.{figures-are, block-bits}
+use Rattle.rules.proofs.Pools.{blocks-are, block-bits}
 use Rattle.rules.proofs.GoodWhen.{region-when, start-when, good-when}
 use Rattle.rules.proofs.AcceptedWhen.{accepted-when}
 use Rattle.rules.proofs.Effects.{effects}
@@ -15,7 +15,7 @@ demand-2 =
       accepted-when = accepted-when;
       effects = effects;
       slot = slot;
-      figures-are = figures-are;
+      blocks-are = blocks-are;
       block-bits = block-bits;
       region-when = region-when;
       start-when = start-when;

@@ -1,11 +1,11 @@
 -- DEMAND 2: exact effect. With a good state and buffers that fit, a command is accepted exactly when the layouts, the unit, the region
 -- table, the busy dumps, for pool figures the blocks and, where a symbol is named, the symbol table allow it, and then does exactly what papers
--- 01 and 02 (A2) say.
+-- 01 and 02 (A2, A4) say.
 use mathlib.Core.Path.{_≡_}
 use mathlib.Core.Logic.{_≢_, _↔_}
 use mathlib.Core.Bool.{Bool, true, false, cond, not}
-use mathlib.Core.List.{List, [], _∷_, _++_}
-use Prim.Native.Nat.{ℕ, suc, _+_, _*_, _%_, _≤_, _<_}
+use mathlib.Core.List.{List, [], _∷_, _++_, map}
+use Prim.Native.Nat.{ℕ, suc, _+_, _-_, _*_, _%_, _≤_, _<_}
 use lib.ListN.{length, getD, take, drop}
 use Rattle.wire.specs.Bytes.{AreBytes}
 use Rattle.wire.specs.ByByte.{two, four}
@@ -14,7 +14,7 @@ use Rattle.rules.specs.States.{startRules, startUp, poolAt, contextAt, b
 use Rattle.rules.specs.Cases.{Formed, rangeOf, rangeFrom, nameFrom, poolOf, NameAllowed, NumberFree, NumberBusy, PlaceFree}
 use Rattle.rules.specs.GoodWhen.{LiesIn, DumpableIn, Lies, firstWord, GoodStart, Good}
 use Rattle.rules.specs.Packets.{functionCodeOf, apidOf, commandUnit, commandTransaction}
-use Rattle.rules.specs.Pools.{Block, blockOf, Tiles, isFree, isUsed, words, blocks, largest}
+use Rattle.rules.specs.Pools.{Block, blockOf, Tiles, isFree, isUsed, words, blocks, largest, usable}
 use Rattle.rules.specs.Values.{Reached}
 use Rattle.symbols.specs.Table.{symbolTable, hasName, valueOf, IsTable, Named}
 use Rattle.rules.specs.Results.{verdictNumber, answerNumber, answerLength}
@@ -150,7 +150,7 @@ pub record LoadDone (s : State) (c : CommandArgs) (o : Outcome) : Type 0 where
   pub state : o .state ≡ afterCommand s (s .places) (s .replies) (s .values)
   pub reply : (o .buffer ≡ c .reply) × (answerLength (o .answer) ≡ 0)
 
--- THE FIGURES IN LOGIC
+-- THE BLOCKS AND THEIR FIGURES IN LOGIC
 
 -- the blocks that `pick` picks, in order, and the sum of blocks' sizes
 abbrev pub picked : (Block → Bool) → List Block → List Block
@@ -161,17 +161,43 @@ abbrev pub sizeSum : List Block → ℕ
 sizeSum [] = 0
 sizeSum (b ∷ bs) = b .size + sizeSum bs
 
+abbrev pub blockAt : List Block → ℕ → Block
+blockAt bs i = getD bs i (record { used = false; size = 0 })
+
 abbrev pub sizeAt : List Block → ℕ → ℕ
-sizeAt bs i = getD bs i (record { used = false; size = 0 }) .size
+sizeAt bs i = blockAt bs i .size
+
+-- The blocks of a pool, one by one: each is what the word says that comes after the words of those before it, and has a word or more; together they
+-- have as many as the pool.
+pub record BlocksAre (pool : List ℕ) (bs : List Block) : Type 0 where
+  pub block : (i : ℕ) → i < length bs → blockAt bs i ≡ blockOf (getD pool (sizeSum (take i bs)) 0)
+  pub some : (i : ℕ) → i < length bs → 1 ≤ sizeAt bs i
+  pub all : sizeSum bs ≡ length pool
+
+abbrev pub freeBlocks : List Block → List Block
+freeBlocks bs = picked (λ b. not (b .used)) bs
+
+abbrev pub usedBlocks : List Block → List Block
+usedBlocks bs = picked (λ b. b .used) bs
+
+-- a block without its first word
+abbrev pub withoutFirst : Block → Block
+withoutFirst b = record { used = b .used; size = b .size - 1 }
 
 pub record FiguresAre (bs : List Block) : Type 0 where
-  pub free-words : words isFree bs ≡ sizeSum (picked (λ b. not (b .used)) bs)
-  pub free-blocks : blocks isFree bs ≡ length (picked (λ b. not (b .used)) bs)
-  pub used-words : words isUsed bs ≡ sizeSum (picked (λ b. b .used) bs)
-  pub used-blocks : blocks isUsed bs ≡ length (picked (λ b. b .used) bs)
-  -- no free block is larger than the largest, and it is one of them; 0 if there is none
-  pub bounds : (i : ℕ) → sizeAt (picked (λ b. not (b .used)) bs) i ≤ largest isFree bs
-  pub reached : (i : ℕ) × (largest isFree bs ≡ sizeAt (picked (λ b. not (b .used)) bs) i)
+  pub free-words : words isFree bs ≡ sizeSum (freeBlocks bs)
+  pub free-blocks : blocks isFree bs ≡ length (freeBlocks bs)
+  pub used-words : words isUsed bs ≡ sizeSum (usedBlocks bs)
+  pub used-blocks : blocks isUsed bs ≡ length (usedBlocks bs)
+  pub all-blocks : blocks isFree bs + blocks isUsed bs ≡ length bs
+  -- The third figure plus one is the largest free block's size, where there is a free block: one has as many words, and none has more.
+  pub reached : 1 ≤ length (freeBlocks bs) → (i : ℕ) × (i < length (freeBlocks bs)) × (sizeAt (freeBlocks bs) i ≡ usable isFree bs + 1)
+  pub bounds : (i : ℕ) → i < length (freeBlocks bs) → sizeAt (freeBlocks bs) i ≤ usable isFree bs + 1
+  -- It is 0 where there is no free block, and where every free block has one word.
+  pub none : length (freeBlocks bs) ≡ 0 → usable isFree bs ≡ 0
+  pub ones : ((i : ℕ) → i < length (freeBlocks bs) → sizeAt (freeBlocks bs) i ≡ 1) → usable isFree bs ≡ 0
+  -- It is the same if one is taken off each block before the largest is picked.
+  pub each : largest isFree (map withoutFirst bs) ≡ usable isFree bs
 
 -- THE REPLY, BY BYTE OFFSET
 
@@ -191,8 +217,9 @@ BlockBits w = (w ≡ cond (blockOf w .used) 2147483648 0 + blockOf w .size) × (
 pub record PoolDone (s : State) (c : CommandArgs) (o : Outcome) : Type 0 where
   pub found : List Block
   pub tiles : Tiles (poolWords s (poolOf (c .packet)) (c .image)) found
-  -- five words from byte 12 on: free words, free blocks, size of the largest free block, used words, used blocks
-  pub free : (four (o .buffer) 12 ≡ words isFree found) × (four (o .buffer) 16 ≡ blocks isFree found) × (four (o .buffer) 20 ≡ largest isFree found)
+  pub figures : FiguresAre found
+  -- five words from byte 12 on: free words, free blocks, usable words of the largest free block, used words, used blocks
+  pub free : (four (o .buffer) 12 ≡ words isFree found) × (four (o .buffer) 16 ≡ blocks isFree found) × (four (o .buffer) 20 ≡ usable isFree found)
   pub used : (four (o .buffer) 24 ≡ words isUsed found) × (four (o .buffer) 28 ≡ blocks isUsed found)
   pub size : words isFree found + words isUsed found ≡ poolAt (s .pools) (poolOf (c .packet)) .words
   pub reported : answerLength (o .answer) ≡ 32
@@ -264,8 +291,8 @@ pub record Demand2 : Type 0 where
   pub effects : (s : State) (c : CommandArgs) → IsAccepted s c → Effects s c
   pub slot : (s : State) (c : SlotArgs) → goodState s ≡ true → length (c .image) ≡ imageLength (s .regions) (s .count) → 4092 ≤ length (c .buffer)
       → SlotExact s c
-  -- the figures are those of the blocks
-  pub figures-are : (bs : List Block) → FiguresAre bs
+  -- what the blocks of a pool are, and the bits of a block's first word
+  pub blocks-are : (pool : List ℕ) (bs : List Block) → Tiles pool bs ↔ BlocksAre pool bs
   pub block-bits : (w : ℕ) → w < 4294967296 → BlockBits w
   -- the tests of tables, pools, dumps and states hold exactly when the rules do
   pub region-when : (right : Region → Bool) (rs : List Region) (n : ℕ) (a : Range) → (inOneRegion right rs n a ≡ true) ↔ ((i : ℕ) × LiesIn right rs n a i)

@@ -1,4 +1,4 @@
--- Paper 01, "Checked examples": E1 to E12, computed with the definitions. Fresh states, unit 2; unless said otherwise no pools and one
+-- Paper 01, "Checked examples", E1 to E12, as paper 02 (A4) leaves them: computed with the definitions. Fresh states, unit 2; unless said otherwise no pools and one
 -- region at 1000 hex of four words, both rights.
 use mathlib.Core.Path.{_≡_}
 use mathlib.Core.Bool.{true}
@@ -133,7 +133,7 @@ pub record Examples : Type 0 where
   pub e11 : (w x y z : ℕ) → written (box (both 0x1000 6 ∷ []) (range 0x1000 6))
       (send (0x80000002 ∷ w ∷ 0x00000004 ∷ x ∷ y ∷ z ∷ []) (commandBytes (header 0 0x123) (PoolStatistics 1) []) ∷ [])
       ≡ (0x03 ∷ 0x11 ∷ 0xC0 ∷ 0x00 ∷ 0x00 ∷ 0x19 ∷ 0x21 ∷ 0x23 ∷ 0x00 ∷ 0x01 ∷ 0x00 ∷ 0x00
-      ∷ 0 ∷ 0 ∷ 0 ∷ 4 ∷ 0 ∷ 0 ∷ 0 ∷ 1 ∷ 0 ∷ 0 ∷ 0 ∷ 4 ∷ 0 ∷ 0 ∷ 0 ∷ 2 ∷ 0 ∷ 0 ∷ 0 ∷ 1 ∷ [])
+      ∷ 0 ∷ 0 ∷ 0 ∷ 4 ∷ 0 ∷ 0 ∷ 0 ∷ 1 ∷ 0 ∷ 0 ∷ 0 ∷ 3 ∷ 0 ∷ 0 ∷ 0 ∷ 2 ∷ 0 ∷ 0 ∷ 0 ∷ 1 ∷ [])
       ∷ []
   pub e11-answer : (w x y z : ℕ) → numbers (box (both 0x1000 6 ∷ []) (range 0x1000 6))
       (send (0x80000002 ∷ w ∷ 0x00000004 ∷ x ∷ y ∷ z ∷ []) (commandBytes (header 0 0x123) (PoolStatistics 1) []) ∷ [])

@@ -25,8 +25,12 @@ region a n l d = record { range = range a n; load = l; dump = d }
 abbrev pub cancel : ℕ → List ℕ
 cancel t = commandBytes (header 0 t) Cancel []
 
-abbrev pub figuresOfPool : ℕ → Call
-figuresOfPool w = send (w ∷ 0 ∷ []) (commandBytes (header 0 1) (PoolStatistics 1) [])
+-- a box whose only region, of two words, is pool 1, and its figures
+abbrev pub pair : State
+pair = box (both 0x1000 2 ∷ []) (range 0x1000 2)
+
+abbrev pub figuresOfPair : ℕ → ℕ → Call
+figuresOfPair w x = send (w ∷ x ∷ []) (commandBytes (header 0 1) (PoolStatistics 1) [])
 
 -- a box of unit 10 with two regions; all of the first is pool 0, whose blocks are two free and two used
 abbrev pub big : State
@@ -55,14 +59,21 @@ pub record FurtherExamples : Type 0 where
   -- a cancel of a number that is not busy, of one that is, and of one that was
   pub cancels : numbers usual (send four (dump 1 1 0x1000) ∷ send four (cancel 2) ∷ send four (cancel 1) ∷ slotAt four 6 ∷ send four (cancel 1) ∷ [])
       ≡ 0 ∷ 14 ∷ 0 ∷ 16 ∷ 14 ∷ []
-  -- the second reply of pool 0: five free words in two blocks, the largest of three, and two used words in two blocks
+  -- the second reply of pool 0: five free words in two blocks, the largest with two usable, and two used words in two blocks
   pub figures : drop 1 (written big (ask 0xFED (PoolStatistics 0) ∷ ask 0xFED (PoolStatistics 0) ∷ []))
       ≡ (0x03 ∷ 0x11 ∷ 0xC0 ∷ 0x01 ∷ 0x00 ∷ 0x19 ∷ 0xAF ∷ 0xED ∷ 0x00 ∷ 0x00 ∷ 0x00 ∷ 0x00
-      ∷ 0 ∷ 0 ∷ 0 ∷ 5 ∷ 0 ∷ 0 ∷ 0 ∷ 2 ∷ 0 ∷ 0 ∷ 0 ∷ 3 ∷ 0 ∷ 0 ∷ 0 ∷ 2 ∷ 0 ∷ 0 ∷ 0 ∷ 2 ∷ [])
+      ∷ 0 ∷ 0 ∷ 0 ∷ 5 ∷ 0 ∷ 0 ∷ 0 ∷ 2 ∷ 0 ∷ 0 ∷ 0 ∷ 2 ∷ 0 ∷ 0 ∷ 0 ∷ 2 ∷ 0 ∷ 0 ∷ 0 ∷ 2 ∷ [])
+      ∷ []
+  -- one free block of two words; no free block; one free block of one word beside a used one; two free blocks of one word
+  pub usable : map (drop 12) (written pair (figuresOfPair 2 9 ∷ figuresOfPair 0x80000002 9 ∷ figuresOfPair 1 0x80000001 ∷ figuresOfPair 1 1 ∷ []))
+      ≡ (0 ∷ 0 ∷ 0 ∷ 2 ∷ 0 ∷ 0 ∷ 0 ∷ 1 ∷ 0 ∷ 0 ∷ 0 ∷ 1 ∷ 0 ∷ 0 ∷ 0 ∷ 0 ∷ 0 ∷ 0 ∷ 0 ∷ 0 ∷ [])
+      ∷ (0 ∷ 0 ∷ 0 ∷ 0 ∷ 0 ∷ 0 ∷ 0 ∷ 0 ∷ 0 ∷ 0 ∷ 0 ∷ 0 ∷ 0 ∷ 0 ∷ 0 ∷ 2 ∷ 0 ∷ 0 ∷ 0 ∷ 1 ∷ [])
+      ∷ (0 ∷ 0 ∷ 0 ∷ 1 ∷ 0 ∷ 0 ∷ 0 ∷ 1 ∷ 0 ∷ 0 ∷ 0 ∷ 0 ∷ 0 ∷ 0 ∷ 0 ∷ 1 ∷ 0 ∷ 0 ∷ 0 ∷ 1 ∷ [])
+      ∷ (0 ∷ 0 ∷ 0 ∷ 2 ∷ 0 ∷ 0 ∷ 0 ∷ 2 ∷ 0 ∷ 0 ∷ 0 ∷ 0 ∷ 0 ∷ 0 ∷ 0 ∷ 0 ∷ 0 ∷ 0 ∷ 0 ∷ 0 ∷ [])
       ∷ []
   -- pools of two words by their first word: whole, and damaged
-  pub damage : numbers (box (both 0x1000 2 ∷ []) (range 0x1000 2))
-      (map figuresOfPool (2 ∷ 0x80000002 ∷ 0 ∷ 0x80000000 ∷ 3 ∷ 1 ∷ 0x10002 ∷ 0x40000002 ∷ []))
+  pub damage : numbers pair
+      (map (λ w. figuresOfPair w 0) (2 ∷ 0x80000002 ∷ 0 ∷ 0x80000000 ∷ 3 ∷ 1 ∷ 0x10002 ∷ 0x40000002 ∷ []))
       ≡ 0 ∷ 0 ∷ 15 ∷ 15 ∷ 15 ∷ 15 ∷ 15 ∷ 15 ∷ []
   -- two dumps of the second region, served in turn
   pub turns : written big (ask 0x801 (dumpOf 1 0x2000) ∷ ask 0x802 (dumpOf 1 0x2004) ∷ slotAt memory 0x01020304 ∷ slotAt memory 7 ∷ [])

@@ -1,4 +1,4 @@
--- Paper 01, "What each command does": the blocks of a pool, their figures, and the reply.
+-- Paper 01, "What each command does", and paper 02, A4: the blocks of a pool, their figures, and the reply.
 use mathlib.Core.Path.{_≡_}
 use mathlib.Core.Bool.{Bool, true, false, cond, not}
 use mathlib.Core.List.{List, [], _∷_, _++_}
@@ -69,6 +69,10 @@ abbrev pub largest : (Block → Bool) → List Block → ℕ
 largest pick [] = 0
 largest pick (b ∷ bs) = max (cond (pick b) (b .size) 0) (largest pick bs)
 
+-- Paper 02, A4: the largest block's size minus one, as its first word isn't usable. 0 if there is none: a number of this logic is never below 0.
+abbrev pub usable : (Block → Bool) → List Block → ℕ
+usable pick bs = largest pick bs - 1
+
 -- THE REPLY: 32 bytes
 
 abbrev pub replyApid : ℕ
@@ -77,13 +81,13 @@ replyApid = 785
 abbrev pub replyLength : ℕ
 replyLength = 32
 
--- primary header; unit and transaction; pool (16 bits); zero (16); then as words: free words, free blocks, size of the largest free block,
--- used words, used blocks
+-- primary header; unit and transaction; pool (16 bits); zero (16); then as words: free words, free blocks, usable words of the largest free
+-- block, used words, used blocks
 unfoldable pub replyBytes : ℕ → ℕ → ℕ → ℕ → List Block → List ℕ
 replyBytes count unit transaction pool bs =
     primaryHeader 0 0 replyApid count replyLength ++ identity unit transaction ++ be 2 pool ++ be 2 0
     ++ be 4 (words isFree bs)
     ++ be 4 (blocks isFree bs)
-    ++ be 4 (largest isFree bs)
+    ++ be 4 (usable isFree bs)
     ++ be 4 (words isUsed bs)
     ++ be 4 (blocks isUsed bs)

@@ -287,6 +287,8 @@ fn settle_unused(reading: &mut Option<Unused>, call: &Call, model: &mut Outcome,
 const NUMBERS: usize = 19;
 const CODES: [(u8, &str); 6] =
     [(0, "dump"), (1, "cancel"), (4, "load"), (7, "pool statistics"), (8, "value of a symbol"), (9, "dump by name")];
+/// By the free blocks: none, each of one word, and others.
+const POOLS: [&str; 3] = ["no free block", "free blocks of one word", "larger ones"];
 
 struct Run {
     seed: u64,
@@ -302,6 +304,7 @@ struct Run {
     tables: [u64; TABLES.len()],
     /// Commands answered 0 by function code.
     done: [u64; CODES.len()],
+    pools: [u64; POOLS.len()],
     sums: Sums,
 }
 
@@ -383,6 +386,7 @@ impl Run {
             by_name: [[0; NUMBERS]; 2],
             tables: [0; TABLES.len()],
             done: [0; CODES.len()],
+            pools: [0; POOLS.len()],
             sums: Sums::default(),
         }
     }
@@ -415,24 +419,28 @@ impl Run {
         let kind = KINDS.iter().position(|&kind| kind == call.kind).unwrap_or(0);
         self.table[kind][door.number.min(18) as usize] += 1;
         if call.kind == Kind::Command {
-            self.count_command(&call.packet, call.table, door.number);
+            self.count_command(&call.packet, call.table, door.number, &door.buffer);
         }
         if call.kind == Kind::Batch && door.number == 0 {
             for i in 0..call.starts.len() {
                 self.items[door.answers[i].number.min(18) as usize] += 1;
-                self.count_command(item_of(call, i), call.table, door.answers[i].number);
+                self.count_command(item_of(call, i), call.table, door.answers[i].number, &door.buffer[32 * i..]);
             }
         }
         door
     }
 
-    fn count_command(&mut self, packet: &[u8], table: usize, number: u32) {
+    fn count_command(&mut self, packet: &[u8], table: usize, number: u32, reply: &[u8]) {
         if (1..=8).contains(&number) {
             return;
         }
         let code = packet[6];
         if number == 0 {
             self.done[CODES.iter().position(|known| known.0 == code).unwrap_or(0)] += 1;
+        }
+        if number == 0 && code == 7 {
+            let (free_blocks, usable) = (&reply[16..20], &reply[20..24]);
+            self.pools[if free_blocks == [0; 4] { 0 } else if usable == [0; 4] { 1 } else { 2 }] += 1;
         }
         if code == 8 || code == 9 {
             self.by_name[code as usize - 8][number.min(18) as usize] += 1;
@@ -729,9 +737,10 @@ impl Run {
             names.iter().zip(counts).map(|(name, n)| format!("{name} {n}")).collect::<Vec<String>>().join(", ")
         };
         println!("commands done: {}", list(&CODES.map(|code| code.1), &self.done));
+        println!("pools told: {}", list(&POOLS, &self.pools));
         println!("symbol tables that codes 8 and 9 tested: {}", list(&TABLES[..NO_TABLE], &self.tables));
         println!("no symbol tables: {}; table or none: {}", list(&TABLES[NO_TABLE..DISTURBED], &self.tables[NO_TABLE..]), self.tables[DISTURBED]);
-        complete && self.done.iter().all(|&n| n > 0) && self.tables.iter().all(|&n| n > 0)
+        complete && self.done.iter().chain(&self.pools).all(|&n| n > 0) && self.tables.iter().all(|&n| n > 0)
     }
 }
 

@@ -592,18 +592,26 @@ fn disturb_block(rng: &mut Rng, block: &mut Vec<u32>) {
 // Images and pools
 // ------------------------------------------------------------------------------------------------------------------------------------
 
-/// Whole blocks over a pool: sizes random, used or free, the rest of each block random.
+/// Whole blocks over a pool: sizes random, used or free, the rest of each block random. In some pools no block is free, or none is used, or each
+/// free block has one word.
 pub fn fill_blocks(rng: &mut Rng, pool: &mut [u32]) -> Vec<usize> {
     let mut heads = vec![];
     let mut at = 0;
     let most = rng.pick(&[1, 3, 8, 50, 5_000, 2_000_000]);
+    let kind = rng.below(6);
     while at < pool.len() {
         let rest = (pool.len() - at) as u64;
         let size = rng.between(1, rest.min(most)) as usize;
         for word in &mut pool[at..at + size] {
             *word = rng.word();
         }
-        pool[at] = size as u32 | if rng.one_in(2) { 0x8000_0000 } else { 0 };
+        let used = match kind {
+            0 => true,
+            1 => false,
+            2 => size > 1 || rng.one_in(2),
+            _ => rng.one_in(2),
+        };
+        pool[at] = size as u32 | if used { 0x8000_0000 } else { 0 };
         heads.push(at);
         at += size;
     }

@@ -736,14 +736,15 @@ fn do_load(state: &State, size: u32, address: Address, data: &[u32; LOAD_WORDS],
 struct Figures {
     free_words: u32,
     free_blocks: u32,
-    largest_free: u32,
+    /// The largest free block's size; none if there is no free block.
+    largest_free: Option<u32>,
     used_words: u32,
     used_blocks: u32,
 }
 
 /// "Blocks follow each other and end exactly at the pool's end; a size of 0 or a block past the end is damage." None: damage.
 fn walk_blocks(pool: &[u32]) -> Option<Figures> {
-    let mut figures = Figures { free_words: 0, free_blocks: 0, largest_free: 0, used_words: 0, used_blocks: 0 };
+    let mut figures = Figures { free_words: 0, free_blocks: 0, largest_free: None, used_words: 0, used_blocks: 0 };
     let mut at: u64 = 0;
     while at < pool.len() as u64 {
         let first = pool[at as usize];
@@ -758,8 +759,8 @@ fn walk_blocks(pool: &[u32]) -> Option<Figures> {
         } else {
             figures.free_words += size;
             figures.free_blocks += 1;
-            if size > figures.largest_free {
-                figures.largest_free = size;
+            if figures.largest_free.map_or(true, |largest| size > largest) {
+                figures.largest_free = Some(size);
             }
         }
         at += u64::from(size);
@@ -786,7 +787,8 @@ fn do_pool_statistics(state: &State, transaction: u32, number: u32, image: &[u32
     put16(reply, 10, 0);
     put32(reply, 12, figures.free_words);
     put32(reply, 16, figures.free_blocks);
-    put32(reply, 20, figures.largest_free);
+    // "The third figure becomes the largest free block's size minus one, 0 if there is none."
+    put32(reply, 20, figures.largest_free.map_or(0, |size| size - 1));
     put32(reply, 24, figures.used_words);
     put32(reply, 28, figures.used_blocks);
     let mut after = state.clone();

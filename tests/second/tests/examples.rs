@@ -210,11 +210,29 @@ fn e11_pool_statistics() {
     let answer = command_call(&state, &written, &[], &mut image, &mut reply);
     assert_eq!((answer.number, answer.reply_length, answer.state.count_785, answer.state.accepted), (0, 32, 1, 1));
     let mut expected = bytes("03 11 C0 00 00 19 21 23 00 01 00 00");
-    for figure in [4u32, 1, 4, 2, 1] {
+    for figure in [4u32, 1, 3, 2, 1] {
         expected.extend_from_slice(&figure.to_be_bytes());
     }
     expected.extend_from_slice(&[0xEE; 3]);
     assert_eq!(reply.to_vec(), expected);
+}
+
+#[test]
+fn a4_usable_words() {
+    for (words, figures) in [
+        ([3u32, 0, 0, 2, 0], [5u32, 2, 2, 0, 0]),
+        ([2, 0, 3, 0, 0], [5, 2, 2, 0, 0]),
+        ([0x8000_0005, 0, 0, 0, 0], [0, 0, 0, 5, 1]),
+        ([1, 1, 1, 1, 1], [5, 5, 0, 0, 0]),
+        ([1, 0x8000_0004, 0, 0, 0], [1, 1, 0, 4, 1]),
+        ([5, 0, 0, 0, 0], [5, 1, 4, 0, 0]),
+    ] {
+        let state = started(&[(0x1000, 5, BOTH)], [(0x1000, 5), (0, 0)]);
+        let mut reply = [0; 32];
+        let written = packet(0, 1, Command::PoolStatistics { pool: 0 });
+        assert_eq!(command_call(&state, &written, &[], &mut words.to_vec(), &mut reply).number, 0);
+        assert_eq!(reply[12..], figures.map(u32::to_be_bytes).concat());
+    }
 }
 
 #[test]
@@ -279,7 +297,7 @@ fn a1_batch() {
         all.extend(figures.iter().flat_map(|figure| figure.to_be_bytes()));
         all
     };
-    assert_eq!(replies[..32], reply(0, [4, 1, 4, 2, 1]));
+    assert_eq!(replies[..32], reply(0, [4, 1, 3, 2, 1]));
     assert_eq!(replies[32..64], [0xEE; 32]);
     assert_eq!(replies[64..96], reply(1, [0, 0, 0, 6, 2]));
     assert!(replies[96..].iter().all(|&byte| byte == 0xEE));

@@ -70,16 +70,21 @@ loop-again c =
       rw (c .count-block .ensures, told-next t b at (omega arith) (omega arith)) (sym next ∙ l .loop .inv .4),
     )
 
-sub-t11 : tie.Need-sub-t11 Inv-loop μ-loop
-sub-t11 c = search needs
+usable-words-requires : tie.Need-usable-words-requires Inv-loop μ-loop
+usable-words-requires c κs = search needs
 
 sub-t12 : tie.Need-sub-t12 Inv-loop μ-loop
 sub-t12 c = search needs
 
+sub-t13 : tie.Need-sub-t13 Inv-loop μ-loop
+sub-t13 c = search needs
+
 returns-3 : tie.Need-returns-3 Inv-loop μ-loop
 returns-3 c =
-    let l = c .before .before .before in
-    sym (joined-end (told (l .loop .t) (l .loop .at)) (l .before .before .args .pool .now) (l .loop .at) (omega arith)) ∙ l .loop .inv .4
+    let walked = c .before .before in
+    let l = walked .before .before in
+    rw (walked .usable-words .ensures)
+    (sym (joined-end (told (l .loop .t) (l .loop .at)) (l .before .before .args .pool .now) (l .loop .at) (omega arith)) ∙ l .loop .inv .4)
 
 pub walk-pool-spec : {M : Type 1} → statement M
 walk-pool-spec =
@@ -98,6 +103,7 @@ walk-pool-spec =
     add-at
     loop-less
     loop-again
-    sub-t11
+    usable-words-requires
     sub-t12
+    sub-t13
     returns-3)
