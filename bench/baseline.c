@@ -229,7 +229,7 @@ static int table_good(const uint8_t *symbols, size_t bytes)
 static inline const uint8_t *look_up(const uint8_t *symbols, size_t bytes, const uint8_t *name, uint32_t length)
 {
     for (const uint8_t *p = symbols, *end = symbols + bytes; p < end; p += SYMBOL_BYTES)
-        if (p[1] == length && memcmp(p + 4, name, length) == 0) {
+        if (p[1] == length && p[3 + length] == name[length - 1] && memcmp(p + 4, name, length) == 0) {
             while (p[0] == 1)
                 p = symbols + SYMBOL_BYTES * get32(p + 52);
             return p;

@@ -131,6 +131,15 @@ module _ (t : List ℕ) (i : ℕ) (p : (56 * i + 56 ≤ length t) × (recordRule
       rw (eq-eqb (length (nameAt t i)) (length name) (sym l), l)
       (all-same (hasByte t i name) _ (length (nameAt t i)) (λ j k. rw (name-byte t i (p .0) s j (omega arith))))
 
+  -- one byte that differs
+  pub named-apart : nameLengthAt t i ≡ length name → (j : ℕ) → j < length name → (getD t (56 * i + 4 + j) 0 ≡ getD name j 0 → ⊥)
+      → false ≡ sameName (nameAt t i) name
+  named-apart e j l f =
+      sym
+      (either (sameName (nameAt t i) name)
+      (λ s. absurd (f (eqb-true _ _ (all-at (hasByte t i name) (length name) (named-by e ∙ s) l))))
+      (λ s. s))
+
 -- the name of two records, by their whole fields: padding is zero
 module _ (t : List ℕ) (i j : ℕ) (fi : 56 * i + 56 ≤ length t) (fj : 56 * j + 56 ≤ length t) (si : IsSymbol t i) (sj : IsSymbol t j) where
   pub lengths-same : nameAt t i ≡ nameAt t j → nameLengthAt t i ≡ nameLengthAt t j

@@ -182,13 +182,17 @@ fn is_table(t: &[u8]) -> bool
 
 // RESOLVING
 
-// Whether record i has this name.
+// Whether record i has this name. The last byte is compared first, since names of one table tend to begin alike.
 fn is_named(t: &[u8], i: usize, name: &[u8]) -> bool
     requires { ⌜ (56 * i + 56 ≤ length (now t)) × (recordRules (now t) i ≡ true) ⌝ }
     ensures { λ b. ⌜ b ≡ sameName (nameAt (now (t .entry)) i) (now (name .entry)) ⌝ }
 {
     let at = 56 * i + 4;
     if t[56 * i + 1] as usize != name.len() {
+        return false;
+    }
+    let last = name.len() - 1;
+    if t[at + last] != name[last] {
         return false;
     }
     let mut same = true;
