@@ -44,3 +44,4 @@ pub mod PlainBytes
 pub mod Examples
 pub mod FurtherExamples
 pub mod SymbolExamples
+pub mod BoundExamples

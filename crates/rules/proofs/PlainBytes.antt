@@ -1,8 +1,9 @@
 -- Packets in plain bytes.
 -- Assumes nothing.
+use mathlib.Core.Logic.{_↔_}
 use mathlib.Core.Path.{_≡_, refl, sym, ap, subst⁻¹, _∙_}
 use mathlib.Core.List.{List, [], _∷_, _++_}
-use Prim.Native.Nat.{ℕ, _+_, _*_, _-_, _/_, _%_, _<_, min}
+use Prim.Native.Nat.{ℕ, _+_, _*_, _-_, _/_, _%_, _≤_, _<_, min}
 use native.Mathlib.Omega.{arith}
 use lib.ListN.{length, getD, take, drop, length-append, length-take, List·getD-append, List·getD-eq-default}
 use lib.Seq.{getD-append-add, getD-take, getD-drop}
@@ -22,7 +23,8 @@ use Rattle.rules.specs.Ground.{writeCommand, readCommand, wordsBeside, p
 use Rattle.rules.specs.Demand2.{SlotDone}
 use Rattle.rules.specs.ReadBack.{CommandFits, AreWords, SlotFits, packetOf}
 use Rattle.rules.specs.PlainWords.{ImageFits}
-use Rattle.rules.specs.PlainBytes.{HeaderFields, requestAt, CommandFields, codeIn, NameWritten, Body, CommandWritten, NameBeside, Beside, CommandGiven, PacketWritten, PacketGiven, PlainBytes}
+use Rattle.rules.specs.Values.{Reached, on, back}
+use Rattle.rules.specs.PlainBytes.{SignedOffset, AskedOfCallers, HeaderFields, requestAt, CommandFields, codeIn, NameWritten, Body, CommandWritten, NameBeside, Beside, CommandGiven, PacketWritten, PacketGiven, PlainBytes}
 use Rattle.rules.specs.declared.ActiveDump.{ActiveDump}
 use Rattle.rules.specs.declared.Command.{Command}
 use Rattle.rules.specs.declared.Command.the-variants.{Dump, Cancel, Load, PoolStatistics, SymbolValue, DumpSymbol}
@@ -38,6 +40,7 @@ use Rattle.rules.specs.declared.Telecommand.{Telecommand}
 use Rattle.rules.proofs.Asks.{asked-is}
 use Rattle.rules.proofs.Allowed.{decode-dump, decode-cancel, decode-load, decode-pool, decode-value, decode-by-name, decode-other}
 use Rattle.rules.proofs.Fits.{name-length, command-length, packet-length}
+use Rattle.rules.proofs.GoodWhen.{good-when}
 use Rattle.rules.proofs.GroundCases.{length-of}
 use Rattle.rules.proofs.GroundTests.{Writable, writable-out, writable-in, readable-in, readable-out}
 use Rattle.rules.proofs.Located.{good-table, words-sum, lies-from}
@@ -96,6 +99,8 @@ command-fields p b =
       words = words-at-length 11 p 16;
       word = λ k l. words-at-word 11 p 16 k l ∙ at-four p (16 + 4 * k);
       name = refl;
+      name-from = refl;
+      range-from = λ a. refl;
     }
 
 -- COMMANDS, WRITTEN
@@ -315,9 +320,55 @@ module _ (s : State) (c : SlotArgs) (fits : SlotFits s c) (x : SlotDone s c (slo
   packet-packed : PacketWritten s c dump (packetOf s c)
   packet-packed = subst⁻¹ (PacketWritten s c dump) (x .packet) bytes-packed
 
+-- THE OFFSET
+
+reached-on : {v offset a : ℕ} → offset < 2147483648 → Reached v offset a → a ≡ v + offset
+reached-on l (on h e) = e
+reached-on l (back b h e f) = absurd (omega arith)
+
+reached-back : {v offset a : ℕ} → 2147483648 ≤ offset → Reached v offset a → a + 4294967296 ≡ v + offset
+reached-back l (on h e) = absurd (omega arith)
+reached-back l (back b h e f) = omega arith
+
+signed-offset : SignedOffset
+signed-offset =
+    record {
+      on = λ v offset a l. (reached-on l, on l);
+      back = λ v offset a l h. (reached-back l, λ e. back (4294967296 - offset) l (omega arith) (omega arith));
+    }
+
+-- WHAT IS ASKED
+
+below : (m : ℕ) → 0 < m → (l : List ℕ) → ((i : ℕ) → i < length l → getD l i 0 < m) → (i : ℕ) → getD l i 0 < m
+below m some l h i = by-lt i (length l) (h i) (λ past. rw (List·getD-eq-default l 0 past) some)
+
+asked-of-callers : AskedOfCallers
+asked-of-callers =
+    record {
+      bytes = below 256 (omega arith);
+      words = below 4294967296 (omega arith);
+      request = λ q n a. ((n, a), (n, a));
+      cancel = tt;
+      pool = λ i h. h;
+      value = λ n h. h;
+      by-name = λ q n o k. (n, o, k);
+      slots = λ s c g image buffer tick words. record {
+        good = good-when s .1 g;
+        image = image ∙ sym (words-sum (s .regions) (s .count));
+        buffer = buffer;
+        tick = tick;
+        words = below 4294967296 (omega arith) (c .image) words;
+      };
+      no-call = tt;
+      command-call = λ c cs b r. (b, r);
+      slot-call = λ c cs r. r;
+    }
+
 pub plain-bytes : PlainBytes
 plain-bytes =
     record {
+      signed-offset = signed-offset;
+      asked-of-callers = asked-of-callers;
       asked-is = asked-is;
       header-fields = header-fields;
       command-fields = command-fields;

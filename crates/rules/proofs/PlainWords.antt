@@ -1,25 +1,28 @@
 -- Memory, tables and places in plain words.
 -- Assumes nothing.
 use mathlib.Core.Path.{_≡_, refl, sym, ap, _∙_}
-use mathlib.Core.Logic.{_↔_}
-use mathlib.Core.Bool.{true}
+use mathlib.Core.Logic.{_≢_, _↔_}
+use mathlib.Core.Bool.{Bool, true, false}
 use mathlib.Core.List.{List}
-use Prim.Native.Nat.{ℕ, _+_, _≤_, _<_}
+use Prim.Native.Nat.{ℕ, zero, suc, _+_, _-_, _/_, _%_, _≤_, _<_}
 use native.Mathlib.Omega.{arith}
 use lib.ListN.{getD, take, drop}
 use lib.Seq.{getD-take, getD-drop}
 use borrow.Author.Tests.{eqb-true, eq-eqb}
-use Rattle.lists.proofs.Tests.{contra}
-use Rattle.rules.specs.Regions.{anyRight, imageIndex, wordsOf}
-use Rattle.rules.specs.States.{busyWith}
-use Rattle.rules.specs.GoodWhen.{Lies, firstWord}
-use Rattle.rules.specs.PlainWords.{WordsInImage, ImageFits, PlainWords}
+use Rattle.lists.proofs.Below.{none-of, first-none, sum-more}
+use Rattle.lists.proofs.Tests.{either, contra}
+use Rattle.rules.specs.Regions.{startOf, regionAt, rangeAt, tableRules, anyRight, dumpRight, holds, wordsBelow, imageLength, regionOf, imageIndex, wordsOf}
+use Rattle.rules.specs.States.{poolAt, contextAt, busyWith, goodState}
+use Rattle.rules.specs.GoodWhen.{LiesIn, DumpableIn, Lies, firstWord, GoodPool, Good}
+use Rattle.rules.specs.PlainWords.{WordsInImage, ImageFits, LiesDumpable, PlainWords}
 use Rattle.rules.specs.declared.ActiveDump.{ActiveDump}
 use Rattle.rules.specs.declared.Context.{Context}
 use Rattle.rules.specs.declared.Context.the-variants.{Idle, Busy}
 use Rattle.rules.specs.declared.Range.{Range}
+use Rattle.rules.specs.declared.Region.{Region}
 use Rattle.rules.specs.declared.State.{State}
-use Rattle.rules.proofs.Table.{one-in, words-length}
+use Rattle.rules.proofs.Table.{holds-out, one-in, region-holds, holds-unique, words-length}
+use Rattle.rules.proofs.GoodWhen.{good-when}
 use Rattle.rules.proofs.Located.{good-table, words-sum, lies-in, lies-index}
 
 busy-when : (t : ℕ) (c : Context) → (busyWith t c ≡ true) ↔ ((d : ActiveDump) × (c ≡ Busy d) × (d .transaction ≡ t))
@@ -39,6 +42,57 @@ words-in-image s image a i offset fits one lies =
       word = λ k l. getD-take (a .words) (drop first image) k 0 l ∙ getD-drop first image k 0 ∙ ap (λ (x : ℕ). getD image (x + k) 0) e;
     }
 
+more-words : (rs : List Region) (n : ℕ) → imageLength rs (n + 1) ≡ imageLength rs n + rangeAt rs n .words
+unfolding wordsBelow
+more-words rs n = sum-more (λ (i : ℕ). rangeAt rs i .words) n
+
+none-words : (rs : List Region) → imageLength rs 0 ≡ 0
+unfolding wordsBelow
+none-words rs = refl
+
+lies-both : (right : Region → Bool) (rs : List Region) (n : ℕ) (a : Range) (i : ℕ) → startOf a % 4 ≡ 0 → startOf (rangeAt rs i) % 4 ≡ 0
+    → LiesIn right rs n a i ↔ ((offset : ℕ) × Lies rs n a i offset × (right (regionAt rs i) ≡ true))
+lies-both right rs n a i e m = (
+  λ l. (
+    (startOf a - startOf (rangeAt rs i)) / 4,
+    (let f = l .from in let t = l .to in record { in-use = l .in-use; from = omega arith; to = omega arith }),
+    l .allowed,
+  ),
+  λ h. let f = h .1 .from in let t = h .1 .to in record { in-use = h .1 .in-use; from = omega arith; to = omega arith; allowed = h .2 },
+)
+
+found-there : (rs : List Region) (n : ℕ) (a : Range) (i : ℕ) → tableRules rs n ≡ true → 1 ≤ a .words → LiesIn anyRight rs n a i → regionOf rs n a ≡ i
+found-there rs n a i table one l = holds-unique rs n table a (regionOf rs n a) i one (region-holds rs n a (one-in anyRight rs n a i l)) l
+
+found-nowhere : (rs : List Region) (n : ℕ) (a : Range) → ((i : ℕ) → LiesIn anyRight rs n a i → ⊥) → regionOf rs n a ≡ n
+unfolding regionOf
+found-nowhere rs n a nowhere =
+    first-none (holds anyRight rs a) n
+    (none-of (holds anyRight rs a) n (λ i l. either (holds anyRight rs a i) (λ h. absurd (nowhere i (holds-out anyRight rs n a i l h))) (λ h. h)))
+
+module _ (s : State) (g : goodState s ≡ true) where
+  good : Good s
+  good = good-when s .0 g
+
+  dumpable : (a : Range) → startOf a % 4 ≡ 0 → DumpableIn (s .regions) (s .count) a → LiesDumpable s a
+  dumpable a e l =
+      let k = lies-both dumpRight (s .regions) (s .count) a (l .0) e (good .start .regions (l .0) (l .1 .in-use) .aligned) .0 (l .1) in
+      (l .0, k .0, k .1, k .2)
+
+  pool-good : (pool : ℕ) → pool ≤ 1 → GoodPool (s .regions) (s .count) (poolAt (s .pools) pool)
+  pool-good zero l = good .start .first
+  pool-good (suc zero) l = good .start .second
+  pool-good (suc (suc k)) l = absurd (omega arith)
+
+  pool-there : (pool : ℕ) → pool ≤ 1 → 1 ≤ poolAt (s .pools) pool .words → LiesDumpable s (poolAt (s .pools) pool)
+  pool-there pool l one =
+      let ne : poolAt (s .pools) pool .words ≢ 0 = (λ z. absurd (omega arith)) in
+      let p = pool-good pool l in
+      dumpable (poolAt (s .pools) pool) (p .aligned ne) (p .region ne)
+
+  dump-there : (i : ℕ) (d : ActiveDump) → i < 4 → contextAt (s .places) i ≡ Busy d → LiesDumpable s (d .range)
+  dump-there i d l e = let h = good .dumps i d l e in dumpable (d .range) (h .aligned) (h .region)
+
 pub plain-words : PlainWords
 plain-words =
     record {
@@ -48,6 +102,15 @@ plain-words =
       place = λ places i. refl;
       busy = busy-when;
       image-length = words-sum;
+      image-none = none-words;
+      image-more = more-words;
+      region-first = λ rs i. sym (words-sum rs i);
+      lies-when = lies-both;
+      region-of = found-there;
+      region-none = found-nowhere;
+      pool-lies = λ s pool g. pool-there s g pool;
+      no-pool = λ s pool g l. pool-good s g pool l .none;
+      dump-lies = λ s i d g. dump-there s g i d;
       words = words-in-image;
       pool-words = λ s image pool i offset. words-in-image s image _ i offset;
     }

@@ -4,7 +4,7 @@ use mathlib.Core.Path.{_≡_, refl, _∙_}
 use mathlib.Core.Logic.{_≢_}
 use mathlib.Core.Bool.{true, false}
 use mathlib.Core.List.{List, []}
-use Prim.Native.Nat.{ℕ, _≤_}
+use Prim.Native.Nat.{ℕ, suc, _≤_}
 use native.Mathlib.Omega.{arith}
 use lib.ListN.{length, drop}
 use borrow.Author.Tests.{eqb-true, ltb-false, not-false}
@@ -17,11 +17,11 @@ use Rattle.rules.specs.Packets.{decode, nameIn, commandTransaction, comm
 use Rattle.rules.specs.Values.{valueLength, valueBytes}
 use Rattle.rules.specs.Cases.{bytesOf}
 use Rattle.rules.specs.Pools.{Walk, damaged, whole, blocksOf, isDamaged, replyLength}
-use Rattle.rules.specs.Results.{answerLength, verdictNumber, answerNumber, Row, lowest, lentRows}
+use Rattle.rules.specs.Results.{number, counted, answerLength, verdictNumber, answerNumber, Row, lowest, lentRows}
 use Rattle.rules.specs.Commands.{CommandArgs, Outcome, taskOf, task, isUnknown, namesSymbol, wrongRange, poolWords, commandRows, acceptedMore, refusedCommand, replied, told, carryOut, conclude, commandCall}
 use Rattle.rules.specs.Slots.{SlotArgs, isBusy, anyBusy, longestPacket, slotRows, nextPlace, refusedSlot, serve, concludeSlot, slotCall}
 use Rattle.rules.specs.Ground.{writerRows, concludeWrite, writeCommand, readerRows, readingNumber, noWords, fieldsRead, concludeRead, readCommand, packetRows, packetNumber, concludePacket, readPacket}
-use Rattle.rules.specs.Demand1.{Lowest, CommandRefusals, SlotRefusals, StartRefusals, GroundRefusals, Demand1}
+use Rattle.rules.specs.Demand1.{keepsState, Lowest, CommandRefusals, SlotRefusals, StartRefusals, GroundRefusals, Demand1}
 use Rattle.rules.specs.declared.Command.{Command}
 use Rattle.rules.specs.declared.Command.the-variants.{Dump, Cancel, Load, PoolStatistics, SymbolValue, DumpSymbol}
 use Rattle.rules.specs.declared.Context.{Context}
@@ -31,6 +31,7 @@ use Rattle.rules.specs.declared.Decoded.the-variants.{Unknown, Known}
 use Rattle.rules.specs.declared.Header.{Header}
 use Rattle.rules.specs.declared.Range.{Range}
 use Rattle.rules.specs.declared.Refusal.{Refusal}
+use Rattle.rules.specs.declared.Refusal.the-variants.{BadState, ImageLength, BufferLength, Malformed, OtherApid, UnknownCode, PacketLength, OtherUnit, BadField, OutsideRegions, NoRight, TransactionBusy, PlacesBusy, NotBusy, PoolDamaged, NothingToSend, BadTable, UnknownSymbol}
 use Rattle.rules.specs.declared.Region.{Region}
 use Rattle.rules.specs.declared.State.{State}
 use Rattle.rules.specs.declared.Task.{Task}
@@ -45,6 +46,30 @@ use Rattle.rules.proofs.Passed.{Tested, tests-passed}
 use Rattle.rules.proofs.Cases.{names-none, command-cases, slot-cases}
 use Rattle.rules.proofs.AnswerNumbers.{answer-numbers}
 use Rattle.rules.proofs.GroundCases.{length-of, writer-cases, reader-cases, packet-cases}
+
+-- every number but these is counted
+other-counts : (r : Refusal) → number r ≢ 1 → number r ≢ 2 → number r ≢ 3 → number r ≢ 5 → number r ≢ 8 → number r ≢ 16 → counted r ≡ true
+other-counts BadState a b c d e f = absurd (a refl)
+other-counts ImageLength a b c d e f = absurd (b refl)
+other-counts BufferLength a b c d e f = absurd (c refl)
+other-counts Malformed a b c d e f = refl
+other-counts OtherApid a b c d e f = absurd (d refl)
+other-counts UnknownCode a b c d e f = refl
+other-counts PacketLength a b c d e f = refl
+other-counts OtherUnit a b c d e f = absurd (e refl)
+other-counts BadField a b c d e f = refl
+other-counts OutsideRegions a b c d e f = refl
+other-counts NoRight a b c d e f = refl
+other-counts TransactionBusy a b c d e f = refl
+other-counts PlacesBusy a b c d e f = refl
+other-counts NotBusy a b c d e f = refl
+other-counts PoolDamaged a b c d e f = refl
+other-counts NothingToSend a b c d e f = absurd (f refl)
+other-counts BadTable a b c d e f = refl
+other-counts UnknownSymbol a b c d e f = refl
+
+no-number : {A : Type 0} {n k : ℕ} → n ≡ 0 → n ≡ suc k → A
+no-number z e = absurd (omega arith)
 
 -- THE COMMAND CALL
 
@@ -176,10 +201,15 @@ module _ (s : State) (c : CommandArgs) where
         kept = λ n. absurd (n (is .done));
         same = λ k. absurd (contra (rw (is .done) at k) refl);
         one-more = λ k. absurd (contra (rw (is .done) at k) refl);
+        handed-in = (no-number (is .done), no-number (is .done), no-number (is .done), no-number (is .done), no-number (is .done));
+        any-other = λ z. absurd (z (is .done));
         accepted = λ z. (is .accepted, is .refused);
         no-symbol = λ v n others. other-call s c (names-none (c .packet) v n) others ∙ call;
         lent = (is .image, is .buffer);
       }
+
+  keeps-at : (r : Refusal) (k : ℕ) → keepsState k ≡ true → number r ≡ k → refusedCommand s c r .state ≡ s
+  keeps-at r k h e = rw (number-keeps r (rw e h))
 
   command-refused : (r : Refusal) → lowest (commandRows s c) ≡ Rejected r → commandCall s c ≡ refusedCommand s c r
       → CommandRefusals s c (refusedCommand s c r)
@@ -193,6 +223,8 @@ module _ (s : State) (c : CommandArgs) where
         kept = λ n. (refl, refl, refl);
         same = λ k. rw (number-keeps r k);
         one-more = λ k. rw (number-counts r k);
+        handed-in = (keeps-at r 1 refl, keeps-at r 2 refl, keeps-at r 3 refl, keeps-at r 5 refl, keeps-at r 8 refl);
+        any-other = λ z a b c d e f. rw (other-counts r a b c d e f);
         accepted = λ z. let n = number-some r in absurd (omega arith);
         no-symbol = λ v n others. other-call s c (names-none (c .packet) v n) others ∙ call;
         lent = (refl, refl);

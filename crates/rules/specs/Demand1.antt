@@ -81,6 +81,11 @@ pub record CommandRefusals (s : State) (c : CommandArgs) (o : Outcome) : Type 0 
   pub same : keepsState (answerNumber (o .answer)) ≡ true → o .state ≡ s
   pub one-more : countsRefused (answerNumber (o .answer)) ≡ true
       → o .state ≡ stateWith s (s .places) (s .last) (s .replies) (s .values) (s .packets) (s .accepted) ((s .refused + 1) % 65536)
+  -- the same number by number: the state as handed in, and one more refused on every number but 0, 1, 2, 3, 5, 8 and 16
+  pub handed-in : (answerNumber (o .answer) ≡ 1 → o .state ≡ s) × (answerNumber (o .answer) ≡ 2 → o .state ≡ s) × (answerNumber (o .answer) ≡ 3 → o .state ≡ s)
+      × (answerNumber (o .answer) ≡ 5 → o .state ≡ s) × (answerNumber (o .answer) ≡ 8 → o .state ≡ s)
+  pub any-other : answerNumber (o .answer) ≢ 0 → answerNumber (o .answer) ≢ 1 → answerNumber (o .answer) ≢ 2 → answerNumber (o .answer) ≢ 3
+      → answerNumber (o .answer) ≢ 5 → answerNumber (o .answer) ≢ 8 → answerNumber (o .answer) ≢ 16 → o .state .refused ≡ (s .refused + 1) % 65536
   -- number 0 adds one to the accepted count, and to no refused count
   pub accepted : answerNumber (o .answer) ≡ 0 → (o .state .accepted ≡ (s .accepted + 1) % 65536) × (o .state .refused ≡ s .refused)
   -- a command that names no symbol is answered and carried out alike whatever symbol table is lent

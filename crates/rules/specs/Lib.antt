@@ -17,5 +17,6 @@ pub mod ReadBack
 pub mod Examples
 pub mod FurtherExamples
 pub mod SymbolExamples
+pub mod BoundExamples
 pub mod PlainWords
 pub mod PlainBytes

@@ -1,20 +1,21 @@
 -- PACKETS IN PLAIN BYTES: what each definition that reads or writes a field says of the packet's bytes, by their offset (paper 01, "Command
 -- packets", "Telemetry slots", "Ground reader and writer"; paper 02, A2). The calls and the demands share those definitions; this is what else fixes them.
 use mathlib.Core.Path.{_≡_}
-use mathlib.Core.Logic.{_≢_}
-use mathlib.Core.List.{List}
+use mathlib.Core.Logic.{_≢_, _↔_}
+use mathlib.Core.List.{List, [], _∷_}
 use Prim.Native.Nat.{ℕ, _+_, _*_, _-_, _/_, _%_, _≤_, _<_, min}
 use lib.ListN.{length, getD, take, drop, replicate}
 use Rattle.wire.specs.Bytes.{AreBytes}
 use Rattle.wire.specs.ByByte.{byte, two, four}
 use Rattle.wire.specs.Xor.{xorAll}
-use Rattle.rules.specs.GoodWhen.{Lies, firstWord}
+use Rattle.rules.specs.GoodWhen.{Lies, firstWord, wordsIn, Good}
 use Rattle.rules.specs.Packets.{versionOf, typeOf, secondHeaderOf, apidOf, sequenceFlagsOf, sequenceCountOf, lengthFieldOf, unitAt, transactionAt, zeroBitOf, functionCodeOf, commandUnit, commandTransaction, decode, dataWords, nameIn}
 use Rattle.rules.specs.Results.{answerNumber, answerLength}
-use Rattle.rules.specs.Cases.{rangeOf, poolOf, bytesOf}
+use Rattle.rules.specs.Cases.{rangeOf, rangeFrom, nameFrom, poolOf, bytesOf}
 use Rattle.rules.specs.Commands.{CommandArgs}
 use Rattle.rules.specs.Slots.{SlotArgs, slotCall}
-use Rattle.rules.specs.Demand3.{AskedIs}
+use Rattle.rules.specs.Values.{Reached}
+use Rattle.rules.specs.Demand3.{Call, command, slot, LendsBytes, AskedIs}
 use Rattle.rules.specs.Ground.{writeCommand, readCommand, readPacket}
 use Rattle.rules.specs.Demand2.{TelemetryHeader, SlotDone}
 use Rattle.rules.specs.ReadBack.{CommandFits, AreWords, letter, SlotFits, packetOf}
@@ -28,6 +29,7 @@ use Rattle.rules.specs.declared.PacketReading.the-variants.{Packet}
 use Rattle.rules.specs.declared.Reading.the-variants.{Read}
 use Rattle.rules.specs.declared.Request.{Request}
 use Rattle.rules.specs.declared.State.{State}
+use Rattle.rules.specs.declared.SymbolRequest.{SymbolRequest}
 use Rattle.rules.specs.declared.Telecommand.{Telecommand}
 
 -- THE FIELDS OF A PACKET, as the tests of numbers 4 to 9 and the demands read them
@@ -70,6 +72,9 @@ pub record CommandFields (p : List ℕ) : Type 0 where
   pub word : (k : ℕ) → k < 11 → getD (dataWords p) k 0 ≡ four p (16 + 4 * k)
   -- the name of a symbol
   pub name : nameIn p ≡ take (byte p 10) (drop 12 p)
+  pub name-from : nameFrom p ≡ take (byte p 10) (drop 12 p)
+  -- the range of a dump by name that reaches the address a
+  pub range-from : (a : ℕ) → rangeFrom p a ≡ record { start = record { 0 = a }; words = two p 64 }
 
 -- COMMANDS, WRITTEN AND READ
 
@@ -155,7 +160,30 @@ pub record PacketGiven (p : List ℕ) (f : DumpPacket) (part : List ℕ) : Type 
   pub own : (f .here .0 ≡ four p 20) × (f .words ≡ four p 24)
   pub handed-back : part ≡ drop 28 p
 
+-- THE OFFSET of a dump by name, 32 bits: as it stands below 2^31, and 2^32 less from there on
+pub record SignedOffset : Type 0 where
+  pub on : (v offset a : ℕ) → offset < 2147483648 → Reached v offset a ↔ (a ≡ v + offset)
+  pub back : (v offset a : ℕ) → 2147483648 ≤ offset → offset < 4294967296 → Reached v offset a ↔ (a + 4294967296 ≡ v + offset)
+
+-- WHAT IS ASKED of what is lent, here and in the demands: what its types hold, of any length, and nothing else
+pub record AskedOfCallers : Type 0 where
+  pub bytes : (p : List ℕ) → ((i : ℕ) → i < length p → byte p i < 256) → AreBytes p
+  pub words : (ws : List ℕ) → ((i : ℕ) → i < length ws → getD ws i 0 < 4294967296) → AreWords ws
+  pub request : (q : Request) → q .size < 65536 → q .address .0 < 4294967296 → CommandFits (Dump q) × CommandFits (Load q)
+  pub cancel : CommandFits Cancel
+  pub pool : (i : ℕ) → i < 65536 → CommandFits (PoolStatistics i)
+  pub value : (n : ℕ) → n < 256 → CommandFits (SymbolValue n)
+  pub by-name : (q : SymbolRequest) → q .name < 256 → q .offset < 4294967296 → q .size < 65536 → CommandFits (DumpSymbol q)
+  pub slots : (s : State) (c : SlotArgs) → Good s → length (c .image) ≡ wordsIn (take (s .count) (s .regions)) → 4092 ≤ length (c .buffer)
+      → c .tick < 4294967296 → ((i : ℕ) → i < length (c .image) → getD (c .image) i 0 < 4294967296) → SlotFits s c
+  -- of a list of calls only that what is lent as packets are bytes
+  pub no-call : LendsBytes []
+  pub command-call : (c : CommandArgs) (cs : List Call) → AreBytes (c .packet) → LendsBytes cs → LendsBytes (command c ∷ cs)
+  pub slot-call : (c : SlotArgs) (cs : List Call) → LendsBytes cs → LendsBytes (slot c ∷ cs)
+
 pub record PlainBytes : Type 0 where
+  pub signed-offset : SignedOffset
+  pub asked-of-callers : AskedOfCallers
   -- what a command asks of the dump places
   pub asked-is : (c : CommandArgs) → AskedIs c
   pub header-fields : (p : List ℕ) → AreBytes p → HeaderFields p

@@ -2,13 +2,13 @@
 -- themselves (paper 01, "Regions and image"). The calls and the demands share those definitions; this is what else fixes them.
 use mathlib.Core.Path.{_≡_}
 use mathlib.Core.Logic.{_↔_}
-use mathlib.Core.Bool.{true, false}
+use mathlib.Core.Bool.{Bool, true, false}
 use mathlib.Core.List.{List}
-use Prim.Native.Nat.{ℕ, _+_, _*_, _≤_, _<_}
+use Prim.Native.Nat.{ℕ, _+_, _*_, _%_, _≤_, _<_}
 use lib.ListN.{length, getD, take}
-use Rattle.rules.specs.Regions.{startOf, endOf, regionAt, rangeAt, imageLength, wordsOf}
+use Rattle.rules.specs.Regions.{startOf, endOf, regionAt, rangeAt, tableRules, imageLength, regionOf, wordsOf}
 use Rattle.rules.specs.States.{poolAt, contextAt, busyWith, goodState}
-use Rattle.rules.specs.GoodWhen.{wordsIn, firstWord, Lies}
+use Rattle.rules.specs.GoodWhen.{LiesIn, wordsIn, firstWord, Lies}
 use Rattle.rules.specs.Commands.{poolWords}
 use Rattle.rules.specs.declared.ActiveDump.{ActiveDump}
 use Rattle.rules.specs.declared.Context.{Context}
@@ -36,6 +36,10 @@ pub record ImageFits (s : State) (image : List ℕ) : Type 0 where
   pub good : goodState s ≡ true
   pub as-long : length image ≡ wordsIn (take (s .count) (s .regions))
 
+-- the range lies in a region in use that has dump right, from one of its words on
+abbrev pub LiesDumpable : State → Range → Type 0
+LiesDumpable s a = (i : ℕ) × (offset : ℕ) × Lies (s .regions) (s .count) a i offset × (getD (s .regions) i emptyRegion .dump ≡ true)
+
 pub record PlainWords : Type 0 where
   -- ranges, and the entries of a table, of the pools and of the places, by index
   pub range : (a : Range) → (startOf a ≡ a .start .0) × (endOf a ≡ a .start .0 + 4 * a .words)
@@ -45,6 +49,24 @@ pub record PlainWords : Type 0 where
   pub busy : (t : ℕ) (c : Context) → (busyWith t c ≡ true) ↔ ((d : ActiveDump) × (c ≡ Busy d) × (d .transaction ≡ t))
   -- the sum over the regions in use alone, whatever the unused entries hold
   pub image-length : (rs : List Region) (n : ℕ) → imageLength rs n ≡ wordsIn (take n rs)
+  -- region by region: no region has no word, each adds its own, and region i begins where those before it end
+  pub image-none : (rs : List Region) → imageLength rs 0 ≡ 0
+  pub image-more : (rs : List Region) (n : ℕ) → imageLength rs (n + 1) ≡ imageLength rs n + getD rs n emptyRegion .range .words
+  pub region-first : (rs : List Region) (i : ℕ) → firstWord rs i ≡ imageLength rs i
+  -- where a range lies whole in a region by its start and end, it lies there by words, and the other way round: ranges of any size
+  pub lies-when : (right : Region → Bool) (rs : List Region) (n : ℕ) (a : Range) (i : ℕ) → a .start .0 % 4 ≡ 0
+      → getD rs i emptyRegion .range .start .0 % 4 ≡ 0
+      → LiesIn right rs n a i ↔ ((offset : ℕ) × Lies rs n a i offset × (right (getD rs i emptyRegion) ≡ true))
+  -- the region of a range, by its number; n exactly where none holds it
+  pub region-of : (rs : List Region) (n : ℕ) (a : Range) (i : ℕ) → tableRules rs n ≡ true → 1 ≤ a .words → LiesIn (λ (g : Region). true) rs n a i
+      → regionOf rs n a ≡ i
+  pub region-none : (rs : List Region) (n : ℕ) (a : Range) → ((i : ℕ) → LiesIn (λ (g : Region). true) rs n a i → ⊥) → regionOf rs n a ≡ n
+  -- in a good state each pool that is there, and each busy dump, lies in a region with dump right, from one of its words on; a pool that is not has no start
+  pub pool-lies : (s : State) (pool : ℕ) → goodState s ≡ true → pool ≤ 1 → 1 ≤ getD (s .pools) pool emptyRange .words
+      → LiesDumpable s (getD (s .pools) pool emptyRange)
+  pub no-pool : (s : State) (pool : ℕ) → goodState s ≡ true → pool ≤ 1 → getD (s .pools) pool emptyRange .words ≡ 0
+      → getD (s .pools) pool emptyRange .start .0 ≡ 0
+  pub dump-lies : (s : State) (i : ℕ) (d : ActiveDump) → goodState s ≡ true → i < 4 → contextAt (s .places) i ≡ Busy d → LiesDumpable s (d .range)
   -- the words of a range and of a pool
   pub words : (s : State) (image : List ℕ) (a : Range) (i offset : ℕ) → ImageFits s image → 1 ≤ a .words → Lies (s .regions) (s .count) a i offset
       → WordsInImage (s .regions) a i offset image (wordsOf (s .regions) (s .count) a image)

@@ -1,6 +1,7 @@
 // The types of the memory service, and paper 01's examples and demands as theorems over the definitions in specs/.
 ghost use Rattle.rules.specs.Examples.{Examples};
 ghost use Rattle.rules.specs.FurtherExamples.{FurtherExamples};
+ghost use Rattle.rules.specs.BoundExamples.{BoundExamples};
 ghost use Rattle.rules.specs.SymbolExamples.{SymbolExamples};
 ghost use Rattle.rules.specs.Demand1.{Demand1};
 ghost use Rattle.rules.specs.Demand2.{Demand2};
@@ -205,6 +206,11 @@ pub fn checked_examples()
 // Cases that E1 to E12 leave out.
 pub fn further_cases()
     ensures { λ r. ⌜ FurtherExamples ⌝ }
+{}
+
+// Start-up, good states, counts and places at each of their bounds and one past it.
+pub fn bound_examples()
+    ensures { λ r. ⌜ BoundExamples ⌝ }
 {}
 
 // Codes 8 and 9: symbols, their values, and dumps by name.

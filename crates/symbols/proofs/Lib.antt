@@ -4,3 +4,4 @@ pub mod Records
 pub mod Logic
 pub mod Steps
 pub mod Words
+pub mod Grown
