@@ -1,4 +1,4 @@
-/* The seven calls of leatgarnet.h by hand, from papers 01 and 02 (A1, A2) and the header: the yardstick for speed. It does every check that they
+/* The seven calls of leatgarnet.h by hand, from papers 01 and 02 (A1 to A5) and the header: the yardstick for speed. It does every check that they
  * ask for, and works on the lent block as it stands. Compiled twice, with -DPREFIX=gcc_ and -DPREFIX=clang_. For little-endian machines. */
 #include "baseline.h"
 #include <string.h>
@@ -41,8 +41,9 @@ static inline void put32(uint8_t *p, uint32_t v)
     memcpy(p, &v, 4);
 }
 
-/* The number of the region of a good table that holds the range whole, or -1, by halving: the last region whose start is not above the range's, and
- * then its end. `start` is a multiple of 4 and `words` is not 0. A start below the region's gives a distance beyond its size. */
+/* The number of the region of a good table that holds the range whole, by halving: the last region whose start is not above the range's, and then its
+ * end. Or -10 if the first word is in no region, -19 if the range runs out of its region. `start` is a multiple of 4. A start below the region's gives
+ * a distance beyond its size. */
 static inline int find(const uint32_t *regions, uint32_t count, uint32_t start, uint32_t words)
 {
     uint32_t first = 0;
@@ -51,7 +52,7 @@ static inline int find(const uint32_t *regions, uint32_t count, uint32_t start, 
         first += regions[3 * (first + half)] <= start ? half : 0;
     }
     uint32_t distance = (start - regions[3 * first]) >> 2, size = regions[3 * first + 1];
-    return distance < size && words <= size - distance ? (int)first : -1;
+    return distance >= size ? -10 : words > size - distance ? -19 : (int)first;
 }
 
 /* The place in the image of a range that begins at `start` in this region. */
@@ -335,7 +336,7 @@ __attribute__((always_inline)) static inline uint32_t carry_out(uint32_t *restri
             return refuse(s, 9);
         int region = find(s + REGIONS, s[0], address, size);
         if (region < 0)
-            return refuse(s, 10);
+            return refuse(s, (uint32_t)-region);
         if (!(s[REGIONS + 3 * region + 2] & (code == CODE_LOAD ? LOAD_RIGHT : DUMP_RIGHT)))
             return refuse(s, 11);
         if (code == CODE_LOAD) {
@@ -383,7 +384,7 @@ __attribute__((always_inline)) static inline uint32_t carry_out(uint32_t *restri
             return refuse(s, 9);
         int region = find(s + REGIONS, s[0], (uint32_t)address, size);
         if (region < 0)
-            return refuse(s, 10);
+            return refuse(s, (uint32_t)-region);
         if (!(s[REGIONS + 3 * region + 2] & DUMP_RIGHT))
             return refuse(s, 11);
         number = make_busy(s, transaction, (uint32_t)address, size);

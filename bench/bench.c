@@ -357,7 +357,7 @@ static void cases(void)
     t = command_case("refused: wrong check byte (4)", 4, 4, dump, 2);
     t->in.packet[7] ^= 1;
     command_case("refused: another unit (8)", 4, 8, elsewhere, 2);
-    command_case("refused: out of region (10)", 4, 10, far, 2);
+    command_case("refused: runs out of its region (19)", 4, 19, far, 2);
     command_case("refused: transaction busy (12)", 4, 12, again, 2);
     command_case("refused: no such dump (14)", 4, 14, nothing, 2);
     t = command_case("refused: pool damaged (15)", 16, 15, pool, 2);

@@ -226,11 +226,17 @@ static void by_name(void)
 static void refusals(void)
 {
     const uint32_t no_right[LG_COMMAND_WORDS] = { 4, 4, UNIT, 80, 1, FIRST, 0, 1 };
+    const uint32_t runs_out[LG_COMMAND_WORDS] = { 0, 4, UNIT, 80, 2, FIRST + 4 * 1999 };  /* the first region's last word, and one more */
+    const uint32_t outside[LG_COMMAND_WORDS] = { 0, 4, UNIT, 80, 1, FIRST + 4 * 2000 };   /* the word after it */
+    const uint32_t no_pool[LG_COMMAND_WORDS] = { 7, 4, UNIT, 80, 0, 0, 1 };
     const uint32_t other_code[LG_COMMAND_WORDS] = { 2, 4, UNIT, 80 };
     const uint32_t wide_size[LG_COMMAND_WORDS] = { 0, 4, UNIT, 80, 65536, FIRST };
     uint32_t length = 99, data_bytes = 99, fields[LG_PACKET_WORDS] = { 0 }, refused = state[78], before[LG_STATE_WORDS];
     expect("load without the right", send("refusals", no_right), 11);
-    expect("refused count", state[78], refused + 1);
+    expect("dump that runs out of its region", send("past a region's end", runs_out), 19);
+    expect("dump that starts in no region", send("at a region's end", outside), 10);
+    expect("no such pool", send("pool 1", no_pool), 10);
+    expect("refused count", state[78], refused + 4);
     expect("function code 2", lg_write_command(other_code, LG_COMMAND_WORDS, packet, sizeof packet, &length), 6);
     expect("size of 17 bits", lg_write_command(wide_size, LG_COMMAND_WORDS, packet, sizeof packet, &length), 9);
     expect("command block of 20 words", lg_write_command(no_right, 20, packet, sizeof packet, &length), 3);

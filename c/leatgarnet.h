@@ -1,4 +1,4 @@
-/* The C interface of the memory service (paper 01; paper 02, A1 and A2), for x86-64. Nothing is allocated and nothing is kept between calls: all state
+/* The C interface of the memory service (paper 01; paper 02, A1 to A5), for x86-64. Nothing is allocated and nothing is kept between calls: all state
  * is in the block that the caller lends. Each call returns a result number of the papers. What a call asks of its caller:
  *   - a pointer and its length say what is lent; a length of 0 lends nothing, and its pointer may be anything;
  *   - words and answer records are aligned to 4 bytes;
@@ -48,9 +48,11 @@ uint32_t lg_start_up(const uint32_t *table, size_t table_words, uint32_t *state,
  * Other commands never look at it. Each alias that is resolved through another takes 32 bytes of stack. */
 #define LG_SYMBOL_BYTES 56
 
-/* Numbers 0 to 15, 17 and 18. For codes 8 and 9 the order of the tests is 1 to 8; 17 if `symbols` is no table; 9 for the name's size, the pad and the
- * zero bits; 18 if the table has no such name; and for code 9 then 9 for the address and size, and 10 to 13. `reply` has at least 32 bytes for every
- * command, else 3. `reply_length` is set to the bytes written to it: 32 after pool statistics, 12 after the value of a symbol, else 0.
+/* Numbers 0 to 15 and 17 to 19. A load, a dump and a dump by name get 10 if the first word of their range is in no region, and 19, in 10's place, after
+ * 9 and before 11, if the range starts inside a region and runs out of it, into a touching region too. Pool statistics get 10 if there is no such pool.
+ * For codes 8 and 9 the order of the tests is 1 to 8; 17 if `symbols` is no table; 9 for the name's size, the pad and the zero bits; 18 if the table has
+ * no such name; and for code 9 then 9 for the address and size, 10, 19, and 11 to 13. `reply` has at least 32 bytes for every command, else 3.
+ * `reply_length` is set to the bytes written to it: 32 after pool statistics, 12 after the value of a symbol, else 0.
  *
  * Both replies are telemetry packets: 6 bytes of primary header, then unit and transaction in bytes 6 and 7. Numbers are big-endian.
  * Pool statistics, APID 785:

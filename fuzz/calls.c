@@ -108,12 +108,15 @@ static void make_right(struct lent packet)
     p[7] = all;
 }
 
-/* Whether a packet can get a number and a reply length: 17 and 18 are for codes 8 and 9 alone, and each code that replies has its length. */
+/* Whether a packet can get a number and a reply length: 17 and 18 are for codes 8 and 9 alone, 19 for those that name a range (0, 4 and 9), and each
+ * code that replies has its length. */
 static int can_get(const uint8_t *packet, size_t bytes, uint32_t number, uint32_t length)
 {
     uint32_t code = bytes >= 8 ? packet[6] : 128;
     if (number == 0)
         return length == (code == 7 ? 32 : code == 8 ? 12 : 0);
+    if (number == 19)
+        return length == 0 && (code == 0 || code == 4 || code == 9);
     return length == 0 && (number <= 15 || ((number == 17 || number == 18) && (code == 8 || code == 9)));
 }
 

@@ -11,7 +11,10 @@ LAST = int(sys.argv[3]) if len(sys.argv) > 3 else 10 ** 6
 M, D = "model.rs", "door.rs"
 SEARCH = "    for (i, region) in used_regions(setup).iter().enumerate() {\n"
 
-def halving(short="end_of(m.start, m.size) < end_of(start, words)", among="all.len()", until="left > 1"):
+OUT = "if end_of(start, words) <= end { Ok(i) } else { Err(19) };"
+MISSED = "    Err(10)\n}"
+
+def halving(short="end_of(m.start, m.size) < end_of(start, 1)", among="all.len()", until="left > 1"):
     """the model's search by halving (A3), with a fault in one of its parts"""
     return f"""    let all = used_regions(setup);
     let (mut first, mut left) = (0, {among});
@@ -35,16 +38,30 @@ MUTANTS = [
     ("region start unaligned taken", M, "aligned(region.start) && region.size >= 1", "region.size >= 1"),
     ("touching regions refused", M, "end_of(before.start, before.size) > u64::from(after.start.0)", "end_of(before.start, before.size) >= u64::from(after.start.0)"),
     ("overlap by a word taken", M, "end_of(before.start, before.size) > u64::from(after.start.0)", "end_of(before.start, before.size) > u64::from(after.start.0) + 4"),
-    ("range over touching regions", M, "end_of(start, words) <= end_of(region.start, region.size) {", "(end_of(start, words) <= end_of(region.start, region.size) || setup.regions.get(i + 1).is_some_and(|n| i + 1 < setup.region_count as usize && u64::from(n.start.0) == end_of(region.start, region.size) && end_of(start, words) <= end_of(n.start, n.size) && start.0 < n.start.0)) {"),
+    ("range over touching regions", M, OUT, "if end_of(start, words) <= end || used_regions(setup).get(i + 1).is_some_and(|n| u64::from(n.start.0) == end && end_of(start, words) <= end_of(n.start, n.size)) { Ok(i) } else { Err(19) };"),
+    ("10 and 19 exchanged", M, OUT + "\n        }\n    }\n" + MISSED, OUT.replace("19", "10") + "\n        }\n    }\n" + MISSED.replace("10", "19")),
+    ("19 not counted", M, "17 | 18 | 19 => after", "17 | 18 => after"),
+    ("19 for a range from a gap into a region", M, MISSED, "    Err(if used_regions(setup).iter().any(|r| start.0 < r.start.0 && end_of(start, words) > u64::from(r.start.0)) { 19 } else { 10 })\n}"),
+    ("19 for a range from a region's end in a gap", M, MISSED, "    Err(if used_regions(setup).iter().any(|r| end_of(r.start, r.size) == u64::from(start.0)) { 19 } else { 10 })\n}"),
+    ("a region's end is in it", M, "end_of(start, 1) <= end {", "u64::from(start.0) <= end {"),
+    ("10 for a touching pair", M, "Err(19)", "Err(if used_regions(setup).iter().any(|n| u64::from(n.start.0) == end) { 10 } else { 19 })"),
+    ("10 for a range past 2^32", M, "Err(19)", "Err(if end_of(start, words) > MEMORY_END { 10 } else { 19 })"),
+    ("10 for a load that runs out", M, "    let i = match region_holding(&state.setup, address, size) {\n        Err(number) => return refused(state, number),", "    let i = match region_holding(&state.setup, address, size) {\n        Err(_) => return refused(state, 10),"),
+    ("10 for a dump by name that runs out", M, "    do_dump(state, fields.transaction, size, address)\n}", "    let answer = do_dump(state, fields.transaction, size, address);\n    CommandAnswer { number: if answer.number == 19 { 10 } else { answer.number }, ..answer }\n}"),
+    ("absent pool as 19", M, "    if pool.size == 0 {\n        return refused(state, 10);", "    if pool.size == 0 {\n        return refused(state, 19);"),
+    ("11 before 19", M, "Err(19)", "Err(if region.dump || region.load { 19 } else { 11 })"),
+    ("12 before 19", M, "        Err(number) => return refused(state, number),\n        Ok(i) => state.setup.regions[i],", "        Err(19) if busy_place_with(&state.places, transaction).is_some() => return refused(state, 12),\n        Err(number) => return refused(state, number),\n        Ok(i) => state.setup.regions[i],"),
+    ("19 before 9", M, "    if fields_break_bounds(&fields.command) {\n        return refused(state, 9);", "    if let Command::Dump { size, address } | Command::Load { size, address, .. } = fields.command {\n        if region_holding(&state.setup, address, size) == Err(19) { return refused(state, 19); }\n    }\n    if fields_break_bounds(&fields.command) {\n        return refused(state, 9);"),
+    ("halving: by the range's end", M, SEARCH, halving(short="end_of(m.start, m.size) < end_of(start, words)")),
     ("halving: the upper half left out", M, SEARCH, halving(short="false && m.size > 0")),
     ("halving: the lower half left out", M, SEARCH, halving(short="m.size > 0")),
-    ("halving: a range that ends with the lower half sought above it", M, SEARCH, halving(short="end_of(m.start, m.size) <= end_of(start, words)")),
+    ("halving: the lower half's last word sought above it", M, SEARCH, halving(short="end_of(m.start, m.size) <= end_of(start, 1)")),
     ("halving: the last region left out", M, SEARCH, halving(among="all.len().max(2) - 1")),
     ("halving: ends at two regions", M, SEARCH, halving(until="left > 2")),
-    ("end of the region not looked at", M, "start.0 >= region.start.0 && end_of(start, words) <= end_of(region.start, region.size) {", "start.0 >= region.start.0 && u64::from(start.0) < end_of(region.start, region.size) {"),
+    ("end of the region not looked at", M, OUT, "Ok(i);"),
     ("no pool but start taken", M, "return pool.start == Address(0);", "return true;"),
     ("pool unaligned taken", M, "if !aligned(pool.start) {", "if false {"),
-    ("pool without dump right", M, "Some(i) => setup.regions[i].dump,\n    }\n}", "Some(_) => true,\n    }\n}"),
+    ("pool without dump right", M, "Ok(i) => setup.regions[i].dump,\n    }\n}", "Ok(_) => true,\n    }\n}"),
     ("unit 16 taken", M, "&& setup.unit <= UNIT_MOST", "&& setup.unit <= 16"),
     ("unused entries kept at start-up", M, "kept.regions[i] = NO_REGION;", "kept.regions[i] = setup.regions[i];"),
     ("unused entries must be zero", M, "    transactions_differ(&state.places)\n}", "    transactions_differ(&state.places) && state.setup.regions[state.setup.region_count as usize..].iter().all(|r| *r == NO_REGION)\n}"),
@@ -182,8 +199,8 @@ MUTANTS = [
     ("by name: 9 before 17", M, "    let table = match symbol_table(symbols) {", "    if name_size_is_wrong(name) || wrong_padding { return refused(state, 9); }\n    let table = match symbol_table(symbols) {"),
     ("by name: 17 before 8", M, "    if fields.unit != state.setup.unit {", "    if (packet[6] == 8 || packet[6] == 9) && symbol_table(symbols).is_none() { return refused(state, 17); }\n    if fields.unit != state.setup.unit {"),
     ("by name: 17 to every code", M, "    if fields_break_bounds(&fields.command) {\n        return refused(state, 9);", "    if symbol_table(symbols).is_none() { return refused(state, 17); }\n    if fields_break_bounds(&fields.command) {\n        return refused(state, 9);"),
-    ("by name: 17 not counted", M, "9..=15 | 17 | 18 => after", "9..=15 | 18 => after"),
-    ("by name: 18 not counted", M, "9..=15 | 17 | 18 => after", "9..=15 | 17 => after"),
+    ("by name: 17 not counted", M, "9..=15 | 17 | 18 | 19 => after", "9..=15 | 18 | 19 => after"),
+    ("by name: 18 not counted", M, "9..=15 | 17 | 18 | 19 => after", "9..=15 | 17 | 19 => after"),
     ("by name: pad not tested", M, "        8 => packet[11] != 0,\n        9 => packet[11] != 0 ||", "        9 =>"),
     ("by name: zero bits not tested", M, "packet[11] != 0 || get16(packet, 66) != 0", "packet[11] != 0"),
     ("by name: name size 49 taken", M, "name.size == 0 || name.size > NAME_BYTES as u32", "name.size == 0 || name.size > 49"),

@@ -8,7 +8,7 @@ use Rattle.rules.specs.Commands.{CommandArgs, Outcome, task, commandRows, refus
 use Rattle.rules.specs.Pools.{Walk, damaged, whole, blocksOf}
 use Rattle.rules.specs.Results.{number, counted, answerNumber, answerLength, lowest}
 use Rattle.rules.specs.declared.Refusal.{Refusal}
-use Rattle.rules.specs.declared.Refusal.the-variants.{BadState, ImageLength, BufferLength, Malformed, OtherApid, UnknownCode, PacketLength, OtherUnit, BadField, OutsideRegions, NoRight, TransactionBusy, PlacesBusy, NotBusy, PoolDamaged, NothingToSend, BadTable, UnknownSymbol}
+use Rattle.rules.specs.declared.Refusal.the-variants.{BadState, ImageLength, BufferLength, Malformed, OtherApid, UnknownCode, PacketLength, OtherUnit, BadField, OutsideRegions, NoRight, TransactionBusy, PlacesBusy, NotBusy, PoolDamaged, NothingToSend, BadTable, UnknownSymbol, RunsOut}
 use Rattle.rules.specs.declared.State.{State}
 use Rattle.rules.specs.declared.Task.{Task}
 use Rattle.rules.specs.declared.Task.the-variants.{Nothing, DumpRange, CancelDump, LoadRange, CountPool, TellValue}
@@ -41,6 +41,7 @@ refusal-small PoolDamaged = lit< tt
 refusal-small NothingToSend = lit< tt
 refusal-small BadTable = lit< tt
 refusal-small UnknownSymbol = lit< tt
+refusal-small RunsOut = lit< tt
 
 module _ (s : State) (c : CommandArgs) where
   refused-kept : (r : Refusal) → Kept s (refusedCommand s c r)

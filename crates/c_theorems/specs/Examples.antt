@@ -113,6 +113,10 @@ pub record Examples : Type 0 where
   pub dump-state : sent (asked 0 0 0x456 5 0x2004 0) .state
       ≡ box ((1 ∷ 0x456 ∷ 0x2004 ∷ 5 ∷ 0 ∷ []) ++ (1 ∷ 0x123 ∷ 0x3000 ∷ 1020 ∷ 1016 ∷ []) ++ replicate 10 0) (2 ∷ 5 ∷ 6 ∷ 8 ∷ 8 ∷ 9 ∷ [])
   pub refused-state : sent (asked 0 0 0x456 1 0x1000 0) .state ≡ box busy (2 ∷ 5 ∷ 6 ∷ 7 ∷ 9 ∷ 9 ∷ [])
+  -- the first region and the word after it, dumped and loaded; the word after it; a dump by name past the second region's end, and the state after that
+  pub runs-out : map (λ b. sent b .number) (asked 0 0 0x456 5 0x1000 0 ∷ asked 4 0 0x456 2 0x100C 0 ∷ asked 0 0 0x456 1 0x1010 0 ∷ asked 4 0 0x456 1 0x1010 0 ∷ naming 9 6 1 4 ∷ [])
+      ≡ 19 ∷ 19 ∷ 10 ∷ 10 ∷ 19 ∷ []
+  pub runs-out-state : sent (naming 9 6 1 4) .state ≡ box busy (2 ∷ 5 ∷ 6 ∷ 7 ∷ 9 ∷ 9 ∷ [])
   pub load-image : take 5 (sent (asked 4 0 0x456 1 0x1004 0) .image) ≡ 0x11 ∷ 9 ∷ 0x11 ∷ 0x11 ∷ 0x80000002 ∷ []
   pub pool-left : sent (asked 7 0 0x456 9 9 0)
       ≡ record {

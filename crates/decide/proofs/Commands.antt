@@ -10,7 +10,7 @@ use lib.ListN.{length}
 use borrow.Author.Tests.{leb-true, le-leb, lt-leb, ltb-true, ltb-false, eqb-false, not-false}
 use Rattle.lists.proofs.Tests.{either, and-left, and-right}
 use Rattle.lists.proofs.Below.{any-first}
-use Rattle.rules.specs.Regions.{aligned, regionAt, anyRight, loadRight, dumpRight, inOneRegion, imageLength, regionOf, imageIndex, wordsOf}
+use Rattle.rules.specs.Regions.{aligned, regionAt, anyRight, loadRight, dumpRight, inOneRegion, startsInside, imageLength, regionOf, imageIndex, wordsOf}
 use Rattle.rules.specs.States.{poolAt, contextAt, busyWith, goodState}
 use Rattle.rules.specs.Packets.{requested, decode, fieldRules, commandTransaction, nameIn}
 use Rattle.rules.specs.Pools.{Walk, damaged, whole, blocksOf, isDamaged, replyLength}
@@ -19,7 +19,7 @@ use Rattle.rules.specs.Values.{addressFits}
 use Rattle.symbols.specs.Table.{valueOf}
 use Rattle.rules.specs.Commands.{CommandArgs, Outcome, rangeBy, taskOf, task, noTable, layoutRules, unknownName, wrongRange, isIdle, anyWith, anyIdle, firstWith, firstIdle, poolWords, returned, refusedCommand, carryOut, conclude, commandCall}
 use Rattle.rules.proofs.Rules.{pool-out}
-use Rattle.rules.proofs.Table.{one-any, image-fits}
+use Rattle.rules.proofs.Table.{one-any, starts-whole, image-fits}
 use Rattle.rules.specs.declared.Answer.{Answer}
 use Rattle.rules.specs.declared.Command.{Command}
 use Rattle.rules.specs.declared.Command.the-variants.{Dump, Cancel, Load, PoolStatistics, SymbolValue, DumpSymbol}
@@ -38,7 +38,7 @@ use Rattle.packet.specs.Frame.{frameRows, fieldsOf, concludeFrame, frameOf}
 use Rattle.tasks.specs.Asked.{askedOf}
 use Rattle.pool.specs.Answers.{figuresOf, walkedOf}
 use Rattle.pool.proofs.ReplyBytes.{reply-bytes, reply-fits}
-use Rattle.regions.specs.Lookup.{findRegion}
+use Rattle.regions.proofs.Answers.{found-whole}
 use Rattle.decide.specs.Decisions.{lentBy, orderOf, openedAs, openedBy, goodWords, decideWalked, byTask, byOrder, decision, answerOf, imageAfter, replyAfter, stateAfter, carriedOut, Decided}
 use Rattle.decide.specs.declared.Order.{Order}
 use Rattle.decide.specs.declared.Opened.{Opened}
@@ -106,15 +106,16 @@ module _ (s : State) (c : CommandArgs) (lent : LentIs s (c .image) replyLength (
   Own k = concludeAs s c k (lowest (taskRows s c k)) ≡ carriedOut s c (byTask s (c .image) (commandTransaction (c .packet)) k)
 
   own-dump : (a : Range) → 1 ≤ a .words → Own (DumpRange a)
-  unfolding lowest taskRows findRegion
+  unfolding lowest taskRows
   own-dump a some =
       let t : ℕ = commandTransaction (c .packet) in
-      either (inOneRegion anyRight (s .regions) (s .count) a)
-      (λ i. rw (i, right-there dumpRight _ _ (lent .start .table) a some i, any-with t (s .places), any-idle (s .places), not-below (firstIdle (s .places)))
+      rw (found-whole _ _ a (lent .start .table) some)
+      (either (inOneRegion anyRight (s .regions) (s .count) a)
+      (λ i. rw (i, starts-whole _ _ a some i, right-there dumpRight _ _ (lent .start .table) a some i, any-with t (s .places), any-idle (s .places), not-below (firstIdle (s .places)))
       (either (regionAt (s .regions) (regionOf (s .regions) (s .count) a) .dump)
       (λ r. rw r (either (ltb (firstWith t (s .places)) 4) (λ b. rw b) (λ b. rw b (either (ltb (firstIdle (s .places)) 4) (λ e. rw e) (λ e. rw e)))))
       (λ r. rw r)))
-      (λ i. rw i)
+      (λ i. rw i (either (startsInside (s .regions) (s .count) a) (λ q. rw q) (λ q. rw q))))
 
   own-cancel : Own CancelDump
   unfolding lowest taskRows
@@ -124,17 +125,18 @@ module _ (s : State) (c : CommandArgs) (lent : LentIs s (c .image) replyLength (
       (either (ltb (firstWith t (s .places)) 4) (λ b. rw b) (λ b. rw b))
 
   own-load : (a : Range) → 1 ≤ a .words → a .words ≤ 11 → Own (LoadRange a)
-  unfolding lowest taskRows findRegion
+  unfolding lowest taskRows imageIndex
   own-load a some most =
-      either (inOneRegion anyRight (s .regions) (s .count) a)
+      rw (found-whole _ _ a (lent .start .table) some)
+      (either (inOneRegion anyRight (s .regions) (s .count) a)
       (λ i.
       let fits : imageIndex (s .regions) (s .count) a .0 + a .words ≤ length (c .image) =
       omega (arith, image-fits (s .regions) (s .count) a i, lent .whole) in
-      rw (i, right-there loadRight _ _ (lent .start .table) a some i)
+      rw (i, starts-whole _ _ a some i, right-there loadRight _ _ (lent .start .table) a some i)
       (either (regionAt (s .regions) (regionOf (s .regions) (s .count) a) .load)
       (λ r. rw (r, le-leb (a .words) 11 most, le-leb _ _ fits))
       (λ r. rw r)))
-      (λ i. rw i)
+      (λ i. rw i (either (startsInside (s .regions) (s .count) a) (λ q. rw q) (λ q. rw q))))
 
   -- the reply with its numbers cut to their fields is the reply, and the figures are those of the blocks
   pool-walked : (i : ℕ) (w : Walk) → blocksOf (poolWords s i (c .image)) ≡ w
@@ -147,7 +149,7 @@ module _ (s : State) (c : CommandArgs) (lent : LentIs s (c .image) replyLength (
       rw (e, le-leb 32 (length (c .reply)) (lent .room), put, reply-bytes (s .replies) (s .unit) t i bs)
 
   own-pool : (i : ℕ) → i ≤ 1 → Own (CountPool i)
-  unfolding lowest taskRows findRegion wordsOf
+  unfolding lowest taskRows wordsOf imageIndex
   own-pool i low =
       let pool : Range = poolAt (s .pools) i in
       either (eqb (pool .words) 0)
@@ -157,7 +159,8 @@ module _ (s : State) (c : CommandArgs) (lent : LentIs s (c .image) replyLength (
       let inside = one-any dumpRight _ _ pool (there .region) in
       let fits : imageIndex (s .regions) (s .count) pool .0 + pool .words ≤ length (c .image) =
       omega (arith, image-fits (s .regions) (s .count) pool inside, lent .whole) in
-      rw (z, inside, le-leb _ _ fits) (pool-walked i (blocksOf (poolWords s i (c .image))) refl))
+      let some : 1 ≤ pool .words = let n = eqb-false (pool .words) 0 z in omega arith in
+      rw (found-whole _ _ pool (lent .start .table) some, z, inside, le-leb _ _ fits) (pool-walked i (blocksOf (poolWords s i (c .image))) refl))
 
   -- the reply with its numbers cut to their fields is the reply
   own-value : (v : ℕ) → Own (TellValue v)

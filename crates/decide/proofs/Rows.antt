@@ -6,9 +6,9 @@ use Rattle.lists.proofs.Tests.{either}
 use Rattle.rules.specs.Packets.{decode, commandTransaction, nameIn}
 use Rattle.rules.specs.Pools.{replyLength}
 use Rattle.rules.specs.Results.{Row, row, lowest, lentRows}
-use Rattle.rules.specs.Commands.{CommandArgs, task, noTable, wrongField, unknownName, wrongRange, outside, lacksRight, numberTaken, noPlace, noSuchDump, poolDamaged, commandRows}
+use Rattle.rules.specs.Commands.{CommandArgs, task, noTable, wrongField, unknownName, wrongRange, outside, pastEnd, lacksRight, numberTaken, noPlace, noSuchDump, poolDamaged, commandRows}
 use Rattle.rules.specs.declared.Decoded.{Decoded}
-use Rattle.rules.specs.declared.Refusal.the-variants.{BadTable, BadField, UnknownSymbol, OutsideRegions, NoRight, TransactionBusy, PlacesBusy, NotBusy, PoolDamaged}
+use Rattle.rules.specs.declared.Refusal.the-variants.{BadTable, BadField, UnknownSymbol, OutsideRegions, NoRight, TransactionBusy, PlacesBusy, NotBusy, PoolDamaged, RunsOut}
 use Rattle.rules.specs.declared.State.{State}
 use Rattle.rules.specs.declared.Task.{Task}
 use Rattle.rules.specs.declared.Verdict.{Verdict}
@@ -34,10 +34,11 @@ askedRows c d =
     ∷ row BadField (wrongRange (c .symbols) (nameIn (c .packet)) d)
     ∷ []
 
--- 10 to 15
+-- 10, 19, and 11 to 15
 unfoldable pub taskRows : State → CommandArgs → Task → List Row
 taskRows s c k =
     row OutsideRegions (outside s k)
+    ∷ row RunsOut (pastEnd s k)
     ∷ row NoRight (lacksRight s k)
     ∷ row TransactionBusy (numberTaken s (commandTransaction (c .packet)) k)
     ∷ row PlacesBusy (noPlace s k)

@@ -33,9 +33,9 @@ use Rattle.rules.specs.declared.Verdict.the-variants.{Accepted, Rejected}
 use Rattle.bulk.specs.DumpBytes.{dumpPacketBytes, packetFits}
 use Rattle.bulk.proofs.Packet.{slot-packet}
 use Rattle.places.specs.Turns.{turnOf, nextTurn}
-use Rattle.regions.specs.Lookup.{findRegion}
+use Rattle.regions.proofs.Answers.{found-whole}
 use Rattle.regions.specs.declared.Found.{Found}
-use Rattle.regions.specs.declared.Found.the-variants.{Missed, At}
+use Rattle.regions.specs.declared.Found.the-variants.{At, StartsOutside, EndsOutside}
 use Rattle.decide.specs.Decisions.{lentBy, goodWords, find}
 use Rattle.decide.specs.Sendings.{decideSend, byTurn, sendingAs, sending, sendAnswer, bufferAfter, stateSent, sentOut, PlaceFits, SlotDecided}
 use Rattle.decide.specs.declared.Sending.{Sending}
@@ -131,8 +131,8 @@ module _ (s : State) (c : SlotArgs) (lent : LentIs s (c .image) longestPacket (c
 
     serve-dump : (p : ℕ) → serve s c p (Busy d)
         ≡ sentOut s c (decideSend (record { place = p; dump = d }) (find s (d .range)) (s .packets) (s .unit) (c .tick))
-    unfolding findRegion
-    serve-dump p = rw (inside, here-fits, from-fits, le-leb _ _ part-fits, fields-fit, same-length, same-packet)
+    unfolding imageIndex
+    serve-dump p = rw (found-whole _ _ (d .range) (lent .start .table) (omega (arith, is .more)), inside, here-fits, from-fits, le-leb _ _ part-fits, fields-fit, same-length, same-packet)
 
   -- THE PLACE WHOSE TURN IT IS
 
@@ -188,7 +188,8 @@ by-turn-fits s tick p l Idle = tt
 by-turn-fits s tick p l (Busy d) = found (find s (d .range))
   where
     found : (f : Found) → PlaceFits (decideSend (record { place = p; dump = d }) f (s .packets) (s .unit) tick)
-    found (Missed r) = tt
+    found StartsOutside = tt
+    found EndsOutside = tt
     found (At spot) = l
 
 sending-fits : (s : State) (tick : ℕ) (v : Verdict) → PlaceFits (sendingAs s tick v)

@@ -22,7 +22,7 @@ use Rattle.rules.specs.declared.Range.{Range}
 use Rattle.rules.specs.declared.Reading.{Reading}
 use Rattle.rules.specs.declared.Reading.the-variants.{Unread, Read}
 use Rattle.rules.specs.declared.Refusal.{Refusal}
-use Rattle.rules.specs.declared.Refusal.the-variants.{BadState, ImageLength, BufferLength, UnknownCode, OutsideRegions, NoRight, TransactionBusy, PlacesBusy, NotBusy, PoolDamaged}
+use Rattle.rules.specs.declared.Refusal.the-variants.{BadState, ImageLength, BufferLength, UnknownCode, OutsideRegions, NoRight, TransactionBusy, PlacesBusy, NotBusy, PoolDamaged, RunsOut}
 use Rattle.rules.specs.declared.State.{State}
 use Rattle.rules.specs.declared.Task.{Task}
 use Rattle.rules.specs.declared.Task.the-variants.{Nothing, DumpRange, CancelDump, LoadRange, CountPool, TellValue}
@@ -37,7 +37,7 @@ use Rattle.pool.specs.declared.Walked.{Walked}
 use Rattle.pool.specs.declared.Walked.the-variants.{Damaged, Whole}
 use Rattle.regions.specs.Lookup.{findRegion}
 use Rattle.regions.specs.declared.Found.{Found}
-use Rattle.regions.specs.declared.Found.the-variants.{Missed, At}
+use Rattle.regions.specs.declared.Found.the-variants.{At, StartsOutside, EndsOutside}
 use Rattle.decide.specs.declared.Opened.{Opened}
 use Rattle.decide.specs.declared.Opened.the-variants.{Shut, Open}
 use Rattle.decide.specs.declared.Decision.{Decision}
@@ -67,10 +67,11 @@ openedAs Accepted p symbols unit = orderOf symbols p (frameOf p unit)
 abbrev pub openedBy : ℕ → ℕ → ℕ → List ℕ → List ℕ → ℕ → Opened
 openedBy words image reply p symbols unit = openedAs (lentBy words image 32 reply) p symbols unit
 
--- NUMBERS 10 TO 15, by the facts that each command asks for
+-- NUMBERS 10 TO 15, AND 19, by the facts that each command asks for
 
 abbrev pub decideDump : ℕ → Range → Found → ℕ → ℕ → Decision
-decideDump t a (Missed r) busy idle = Refuse r
+decideDump t a StartsOutside busy idle = Refuse OutsideRegions
+decideDump t a EndsOutside busy idle = Refuse RunsOut
 decideDump t a (At spot) busy idle =
     cond (spot .dump)
     (cond (ltb busy 4) (Refuse TransactionBusy)
@@ -81,7 +82,8 @@ abbrev pub decideCancel : ℕ → Decision
 decideCancel busy = cond (leb 4 busy) (Refuse NotBusy) (Freed (record { place = busy }))
 
 abbrev pub decideLoad : Range → Found → Decision
-decideLoad a (Missed r) = Refuse r
+decideLoad a StartsOutside = Refuse OutsideRegions
+decideLoad a EndsOutside = Refuse RunsOut
 decideLoad a (At spot) = cond (spot .load) (Stored (record { at = spot .index; words = a .words })) (Refuse NoRight)
 
 -- the words of the image from an index on, and none where they are not all there
@@ -93,7 +95,8 @@ decideWalked h i Damaged = Refuse PoolDamaged
 decideWalked h i (Whole f) = Reply (record { header = h; pool = i; figures = f })
 
 abbrev pub decideFound : Header → ℕ → Range → Found → List ℕ → Decision
-decideFound h i pool (Missed r) image = Refuse r
+decideFound h i pool StartsOutside image = Refuse OutsideRegions
+decideFound h i pool EndsOutside image = Refuse OutsideRegions
 decideFound h i pool (At spot) image = decideWalked h i (walkedOf (blocksOf (wordsFrom image (spot .index .0) (pool .words))))
 
 abbrev pub decidePool : Header → ℕ → Range → Found → List ℕ → Decision

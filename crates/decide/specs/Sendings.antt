@@ -20,14 +20,15 @@ use Rattle.places.specs.declared.Seat.{Seat}
 use Rattle.places.specs.declared.Turn.{Turn}
 use Rattle.places.specs.declared.Turn.the-variants.{Nobody, Next}
 use Rattle.regions.specs.declared.Found.{Found}
-use Rattle.regions.specs.declared.Found.the-variants.{Missed, At}
+use Rattle.regions.specs.declared.Found.the-variants.{At, StartsOutside, EndsOutside}
 use Rattle.decide.specs.Decisions.{lentBy, goodWords, find, wordsFrom}
 use Rattle.decide.specs.declared.Sending.{Sending}
 use Rattle.decide.specs.declared.Sending.the-variants.{Keep, Send}
 
 -- the next packet of a dump whose range was found; no field is out of its type's bounds, whatever the facts
 abbrev pub decideSend : Seat → Found → ℕ → ℕ → ℕ → Sending
-decideSend x (Missed r) count unit tick = Keep NothingToSend
+decideSend x StartsOutside count unit tick = Keep NothingToSend
+decideSend x EndsOutside count unit tick = Keep NothingToSend
 decideSend x (At spot) count unit tick =
     Send
     (record {

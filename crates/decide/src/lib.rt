@@ -162,14 +162,15 @@ pub fn opened_by(
     }
 }
 
-// NUMBERS 10 TO 15
+// NUMBERS 10 TO 15, AND 19
 
 // A dump: `busy` is the lowest place busy with its number, `idle` the lowest idle one; 4 where there is none.
 pub fn dump(t: u16, range: Range, found: Found, busy: usize, idle: usize) -> Decision
     ensures { λ d. ⌜ d ≡ decideDump t range found busy idle ⌝ }
 {
     match found {
-        Found::Missed(r) => Decision::Refuse(r),
+        Found::StartsOutside => Decision::Refuse(Refusal::OutsideRegions),
+        Found::EndsOutside => Decision::Refuse(Refusal::RunsOut),
         Found::At(spot) => {
             if !spot.dump {
                 return Decision::Refuse(Refusal::NoRight);
@@ -204,7 +205,8 @@ pub fn load(range: Range, found: Found) -> Decision
     ensures { λ d. ⌜ d ≡ decideLoad range found ⌝ }
 {
     match found {
-        Found::Missed(r) => Decision::Refuse(r),
+        Found::StartsOutside => Decision::Refuse(Refusal::OutsideRegions),
+        Found::EndsOutside => Decision::Refuse(Refusal::RunsOut),
         Found::At(spot) => {
             if !spot.load {
                 return Decision::Refuse(Refusal::NoRight);
@@ -226,7 +228,9 @@ pub fn pool_statistics(header: Header, i: u16, pool: Range, found: Found, image:
         return Decision::Refuse(Refusal::OutsideRegions);
     }
     match found {
-        Found::Missed(r) => Decision::Refuse(r),
+        // never: a pool of a good state lies in a region
+        Found::StartsOutside => Decision::Refuse(Refusal::OutsideRegions),
+        Found::EndsOutside => Decision::Refuse(Refusal::OutsideRegions),
         Found::At(spot) => {
             let at = spot.index;
             let walked = walk_pool(words_at(image, at, pool.words as usize));
@@ -267,6 +271,7 @@ pub fn is_counted(r: Refusal) -> bool
         Refusal::NothingToSend => false,
         Refusal::BadTable => true,
         Refusal::UnknownSymbol => true,
+        Refusal::RunsOut => true,
     }
 }
 
@@ -356,7 +361,8 @@ pub fn send(seat: Seat, found: Found, count: u16, unit: u8, tick: u32) -> Sendin
     let d = seat.dump;
     match found {
         // never: a dump of a good state lies in a region
-        Found::Missed(_) => nothing_to_send(),
+        Found::StartsOutside => nothing_to_send(),
+        Found::EndsOutside => nothing_to_send(),
         Found::At(spot) => {
             let range = d.range;
             let first = spot.index;

@@ -74,7 +74,7 @@ fn request(size: u16, address: u32) -> Request {
     }
 }
 
-// The command of a step. The second dump is past its region's end, and the dump that is cancelled is over.
+// The command of a step. The second dump runs out of its region, the dump that is cancelled is over, and the last dump starts in no region.
 fn command_at(i: usize) -> Command {
     match i {
         0 => Command::Dump(request(1017, 4096)),
@@ -87,6 +87,7 @@ fn command_at(i: usize) -> Command {
             offset: 4064,
             size: 1,
         }),
+        11 => Command::Dump(request(2, 8164)),
         _ => Command::Cancel,
     }
 }
@@ -122,6 +123,11 @@ fn header_at(i: usize) -> Header {
             count: 6,
             unit: 2,
             transaction: 295,
+        },
+        11 => Header {
+            count: 7,
+            unit: 2,
+            transaction: 296,
         },
         _ => Header {
             count: 4,
@@ -206,12 +212,12 @@ fn totals(s: State) {
     );
 }
 
-// Eleven steps: three commands, three slots at ticks 5 to 7, four commands, a slot.
+// Twelve steps: three commands, three slots at ticks 5 to 7, four commands, a slot, a command.
 fn pass(image: &mut [u32; 1023], buffer: &mut [u8; 4092]) {
     let mut packet = [0u8; 68];
     let mut s = start();
     let mut i: usize = 0;
-    while i < 11 {
+    while i < 12 {
         let tick = i as u32 + 2;
         let n = prepare(i, tick, &mut packet);
         s = turn(s, &packet, n, tick, image, buffer);

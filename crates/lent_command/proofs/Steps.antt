@@ -31,7 +31,7 @@ use Rattle.rules.specs.declared.Task.the-variants.{Nothing, DumpRange, CancelDu
 use Rattle.rules.proofs.Good.{good-out}
 use Rattle.rules.proofs.Rules.{start-out}
 use Rattle.regions.specs.declared.Found.{Found}
-use Rattle.regions.specs.declared.Found.the-variants.{Missed, At}
+use Rattle.regions.specs.declared.Found.the-variants.{At, StartsOutside, EndsOutside}
 use Rattle.block.specs.Blocks.{word, rangeIn, contextWords, blockOf, isBlock, stateOf}
 use Rattle.block.specs.Calls.{goodWords, onState, lgCommand}
 use Rattle.block.proofs.Bounds.{block-out}
@@ -143,7 +143,8 @@ Low (Reply x) = Unit {0}
 Low (Tell x) = Unit {0}
 
 low-dump : (t : ℕ) (a : Range) (f : Found) (busy idle : ℕ) → Low (decideDump t a f busy idle)
-low-dump t a (Missed r) busy idle = tt
+low-dump t a StartsOutside busy idle = tt
+low-dump t a EndsOutside busy idle = tt
 low-dump t a (At spot) busy idle =
     either (spot .dump)
     (λ e. either (ltb busy 4)
@@ -155,7 +156,8 @@ low-cancel : (busy : ℕ) → Low (decideCancel busy)
 low-cancel busy = either (leb 4 busy) (λ g. rw g tt) (λ g. rw g (leb-false _ _ g))
 
 low-load : (a : Range) (f : Found) → Low (decideLoad a f)
-low-load a (Missed r) = tt
+low-load a StartsOutside = tt
+low-load a EndsOutside = tt
 low-load a (At spot) = either (spot .load) (λ g. rw g tt) (λ g. rw g tt)
 
 module _ (h : Header) (i : ℕ) where
@@ -164,7 +166,8 @@ module _ (h : Header) (i : ℕ) where
   low-walked (Whole f) = tt
 
   low-found : (p : Range) (f : Found) (image : List ℕ) → Low (decideFound h i p f image)
-  low-found p (Missed r) image = tt
+  low-found p StartsOutside image = tt
+  low-found p EndsOutside image = tt
   low-found p (At spot) image = low-walked (walkedOf (blocksOf (wordsFrom image (spot .index .0) (p .words))))
 
   low-pool : (p : Range) (f : Found) (image : List ℕ) → Low (decidePool h i p f image)

@@ -111,7 +111,7 @@ pub fn first_idle(ps: &[u32]) -> usize
     i
 }
 
-// The first busy place after the last one served, going round 0, 1, 2, 3.
+// Whose turn it is: the busy place that comes next after the one served last, place 0 again after place 3.
 fn next_place(ps: &[u32], last: u32) -> usize
     ensures { λ r. ⌜ r ≡ nextPlace (placesRead (now (ps .entry))) last ⌝ }
 {

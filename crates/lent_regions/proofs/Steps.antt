@@ -11,14 +11,15 @@ use borrow.Author.Tests.{le-leb, lt-leb}
 use Rattle.lists.specs.Below.{allBelow}
 use Rattle.lists.proofs.Below.{all-at, all-of}
 use Rattle.lists.proofs.Tests.{either, contra, by-lt}
-use Rattle.rules.specs.Regions.{startOf, endOf, noRegion, regionAt, rangeAt, endBefore, regionRules, wordsBelow}
+use Rattle.rules.specs.Regions.{startOf, endOf, tableRules, firstOf, noRegion, regionAt, rangeAt, endBefore, regionRules, wordsBelow}
 use Rattle.rules.specs.declared.Range.{Range}
-use Rattle.rules.specs.declared.Refusal.the-variants.{OutsideRegions}
 use Rattle.rules.specs.declared.Region.{Region}
 use Rattle.regions.specs.Halving.{regionByHalving, findByHalving}
-use Rattle.regions.specs.Lookup.{rulesBy, holdsBy}
-use Rattle.regions.specs.declared.Found.the-variants.{Missed, At}
-use Rattle.regions.proofs.Steps.{end-more, words-more, found-at}
+use Rattle.regions.specs.Lookup.{rulesBy, holdsBy, FoundWhen}
+use Rattle.regions.specs.declared.Found.{Found}
+use Rattle.regions.specs.declared.Found.the-variants.{At, StartsOutside, EndsOutside}
+use Rattle.regions.proofs.Steps.{end-more, words-more, found-short, found-at}
+use Rattle.regions.proofs.Answers.{found-exactly}
 use Rattle.block.specs.Blocks.{word, rangeIn, regionIn, regionsIn, regionsBounds}
 use Rattle.block.proofs.Runs.{list-at}
 use Rattle.lent_regions.specs.Finding.{findIn}
@@ -48,12 +49,24 @@ module _ (w : List ℕ) (i : ℕ) (l : i < 16) where
         → holdsBy start words from end ≡ holdsBy (startOf (rangeAt (regionsIn w 0) i)) (rangeAt (regionsIn w 0) i .words) from end
     held-at from end = rw (es, ew, range-at)
 
+  -- the region that holds the first word, and its end against the range's
+  abbrev endRead : ℕ
+  endRead = word w (3 * i) + 4 * word w (3 * i + 1)
+
+  end-read : endOf (rangeAt (regionsIn w 0) i) ≡ endRead
+  end-read = rw range-at
+
+  pub found-past : (m : ℕ) (a : Range) → i ≡ regionByHalving (regionsIn w 0) m (firstOf a) → i < m → endRead < endOf a
+      → EndsOutside ≡ findByHalving (regionsIn w 0) m a
+  found-past m a ei k q = found-short (regionsIn w 0) m a i ei k (rw end-read q)
+
   -- the region found, with its rights as they were read
-  pub found-here : (m : ℕ) (a : Range) → i ≡ regionByHalving (regionsIn w 0) m a → i < m → (below before rights : ℕ) → below ≡ wordsBelow (regionsIn w 0) i
+  pub found-here : (m : ℕ) (a : Range) → i ≡ regionByHalving (regionsIn w 0) m (firstOf a) → i < m → endOf a ≤ endRead
+      → (below before rights : ℕ) → below ≡ wordsBelow (regionsIn w 0) i
       → before ≡ (startOf a - word w (3 * i)) / 4 → rights ≡ word w (3 * i + 2)
       → At (record { region = i; index = record { 0 = below + before }; load = eqb (rights % 2) 1; dump = leb 2 rights }) ≡ findByHalving (regionsIn w 0) m a
-  found-here m a ei k below before rights eb eo er =
-      rw (er) (rw region-at at (found-at (regionsIn w 0) m a i ei k below before eb (eo ∙ rw (range-at))))
+  found-here m a ei k q below before rights eb eo er =
+      rw (er) (rw region-at at (found-at (regionsIn w 0) m a i ei k (rw end-read q) below before eb (eo ∙ rw (range-at))))
 
 -- THE RIGHTS of the entries that are whole in the words: the others are 0
 module _ (w : List ℕ) (m : ℕ) (em : m ≡ min (length w / 3) 16) where
@@ -70,12 +83,18 @@ module _ (w : List ℕ) (m : ℕ) (em : m ≡ min (length w / 3) 16) where
       (λ e. e ∙ sym (all-of low 16 (λ k r. by-lt k i (λ s. all-at low i e s) (λ s. none-past k (omega arith) r))))
       (λ e. e ∙ sym (either (allBelow low 16) (λ t. absurd (contra (all-of low i (λ k r. all-at low 16 t (omega arith))) e)) (λ t. t)))
 
--- FEWER WORDS THAN A TABLE, and the words of one
+-- FEWER WORDS THAN A TABLE, and the words of one: what is found, and each number exactly in its case
 module _ (w : List ℕ) (n : ℕ) (a : Range) where
-  pub no-table : length w < 48 → Missed OutsideRegions ≡ findIn w n a
+  abbrev Promised : Found → Type 0
+  Promised f = (f ≡ findIn w n a) × (48 ≤ length w → tableRules (regionsIn w 0) n ≡ true → FoundWhen (regionsIn w 0) n a f)
+
+  pub no-table : length w < 48 → Promised StartsOutside
   unfolding findIn
-  no-table l = rw (lt-leb 48 (length w) l)
+  no-table l = (rw (lt-leb 48 (length w) l), λ k. absurd (omega arith))
 
   pub of-table : 48 ≤ length w → findIn w n a ≡ findByHalving (regionsIn w 0) (min n 16) a
   unfolding findIn
   of-table l = rw (le-leb 48 (length w) l)
+
+  pub in-table : 48 ≤ length w → {f : Found} → f ≡ findByHalving (regionsIn w 0) (min n 16) a → Promised f
+  in-table l e = (e ∙ sym (of-table l), λ k. found-exactly (regionsIn w 0) n a e)

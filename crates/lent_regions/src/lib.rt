@@ -1,10 +1,11 @@
 // The region table of a block: 48 words, three to a region (start, size, rights), in the caller's memory. The rules of one region are in regions.
 ghost use mathlib.Core.Path.{_≡_};
+ghost use mathlib.Core.Bool.{true};
 ghost use Prim.Native.Nat.{_*_, _≤_, min};
 ghost use lib.ListN.{length};
-ghost use Rattle.rules.specs.Regions.{wordsBelow};
+ghost use Rattle.rules.specs.Regions.{tableRules, wordsBelow};
 ghost use Rattle.regions.specs.Halving.{regionByHalving, compared, AtMostFive};
-ghost use Rattle.regions.specs.Lookup.{tableWords};
+ghost use Rattle.regions.specs.Lookup.{tableWords, FoundWhen};
 ghost use Rattle.block.specs.Blocks.{regionsIn, regionsBounds};
 ghost use Rattle.lent_regions.specs.Finding.{findIn};
 use block::word_at;
@@ -13,11 +14,11 @@ use regions::Searched;
 use regions::Spot;
 use regions::end_of;
 use regions::entries;
+use regions::first_word;
 use regions::is_holding;
 use regions::region_rules;
 use regions::words_before;
 use rules::Range;
-use rules::Refusal;
 use rules::WordIndex;
 
 // Whether no entry, in use or not, has rights over 3. Words past the end are 0.
@@ -103,17 +104,20 @@ fn words_below(rs: &[u32], k: usize) -> usize
     total
 }
 
-// The region that holds the range whole, and where the range begins in the image.
+// The region that holds the range whole, and where the range begins in the image; or how it missed. The search is for its first word.
 pub fn find_region(rs: &[u32], n: usize, a: Range) -> Found
-    ensures { λ f. ⌜ f ≡ findIn (now (rs .entry)) n a ⌝ }
+    ensures { λ f. ⌜ (f ≡ findIn (now (rs .entry)) n a) × (48 ≤ length (now (rs .entry)) → tableRules (regionsIn (now (rs .entry)) 0) n ≡ true → FoundWhen (regionsIn (now (rs .entry)) 0) n a f) ⌝ }
 {
     if rs.len() < 48 {
-        return Found::Missed(Refusal::OutsideRegions);
+        return Found::StartsOutside;
     }
-    let searched = region_of(rs, n, a);
+    let searched = region_of(rs, n, first_word(a));
     let k = searched.region;
     if entries(n) <= k {
-        return Found::Missed(Refusal::OutsideRegions);
+        return Found::StartsOutside;
+    }
+    if end_of(rs[3 * k], rs[3 * k + 1]) < end_of(a.start.0, a.words) {
+        return Found::EndsOutside;
     }
     let below = words_below(rs, k);
     let before = words_before(rs[3 * k], a.start.0) as usize;

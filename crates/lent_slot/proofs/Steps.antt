@@ -33,7 +33,7 @@ use Rattle.places.specs.declared.Seat.{Seat}
 use Rattle.places.specs.declared.Turn.{Turn}
 use Rattle.places.specs.declared.Turn.the-variants.{Nobody, Next}
 use Rattle.regions.specs.declared.Found.{Found}
-use Rattle.regions.specs.declared.Found.the-variants.{Missed, At}
+use Rattle.regions.specs.declared.Found.the-variants.{At, StartsOutside, EndsOutside}
 use Rattle.block.specs.Blocks.{word, regionsIn, contextWords, blockOf, isBlock, stateOf}
 use Rattle.block.specs.Calls.{goodWords, onState, lgSlot}
 use Rattle.block.proofs.Bounds.{block-out}
@@ -102,7 +102,8 @@ Low (Send x) = (x .place < 4) × (28 + 4 * x .packet .words < 4294967296)
 
 module _ (s : State) (tick : ℕ) where
   low-found : (x : Seat) (f : Found) → x .place < 4 → Low (decideSend x f (s .packets) (s .unit) tick)
-  low-found x (Missed r) l = tt
+  low-found x StartsOutside l = tt
+  low-found x EndsOutside l = tt
   low-found x (At spot) l = (l, omega arith)
 
   low-turn : (p : ℕ) (a : Context) → p < 4 → Low (byTurn s tick (turnOf p a))

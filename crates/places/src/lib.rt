@@ -129,7 +129,7 @@ pub fn first_idle(ps: [Place; 4]) -> usize
     i
 }
 
-// The first busy place after the last one served, going round 0, 1, 2, 3.
+// Whose turn it is: the busy place that comes next after the one served last, place 0 again after place 3.
 fn next_place(ps: [Place; 4], last: u8) -> usize
     ensures { λ r. ⌜ r ≡ nextPlace ps last ⌝ }
 {

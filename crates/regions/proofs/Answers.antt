@@ -4,18 +4,24 @@ use mathlib.Core.Path.{_≡_, refl, sym, ap, _∙_}
 use mathlib.Core.Logic.{_≢_}
 use mathlib.Core.Bool.{Bool, true, false, cond}
 use mathlib.Core.List.{List}
-use Prim.Native.Nat.{ℕ, min, _≤_}
+use Prim.Native.Nat.{ℕ, _+_, min, _≤_}
 use native.Mathlib.Nat.{min-eq-left}
 use native.Mathlib.Omega.{arith}
+use lib.Dec.{leb}
+use borrow.Author.Tests.{leb-true, le-leb}
 use Rattle.lists.proofs.Tests.{either, contra}
 use Rattle.lists.proofs.Below.{sum-part}
-use Rattle.rules.specs.Regions.{regionAt, rangeAt, tableRules, anyRight, dumpRight, inOneRegion, wordsBelow, imageLength, regionOf}
-use Rattle.rules.proofs.Table.{table-count, table-region, region-holds, holds-unique, one-out, one-in, one-any, holds-any}
+use Rattle.rules.specs.Regions.{endOf, regionAt, rangeAt, tableRules, anyRight, dumpRight, inOneRegion, firstOf, startsInside, wordsBelow, imageLength, regionOf, indexIn}
+use Rattle.rules.specs.GoodWhen.{LiesIn, StartsIn, firstWord, Lies}
+use Rattle.rules.proofs.Located.{words-sum, lies-in}
+use Rattle.regions.specs.declared.Spot.{Spot}
+use Rattle.rules.proofs.Table.{table-count, table-region, region-holds, holds-unique, one-out, one-in, one-any, holds-any, starts-out, starts-in, starts-there}
 use Rattle.rules.specs.declared.Range.{Range}
 use Rattle.rules.specs.declared.Region.{Region}
 use Rattle.regions.specs.Halving.{findByHalving}
-use Rattle.regions.specs.Lookup.{tableWords, findRegion, canDump}
+use Rattle.regions.specs.Lookup.{tableWords, spotIn, foundIn, findRegion, canDump, FoundWhen}
 use Rattle.regions.specs.declared.Found.{Found}
+use Rattle.regions.specs.declared.Found.the-variants.{At, StartsOutside, EndsOutside}
 use Rattle.regions.proofs.InOrder.{right-in-order}
 
 -- THE TABLE'S TEST
@@ -49,21 +55,122 @@ module _ (rs : List Region) (n : ℕ) where
   unfolding tableWords
   table-words-some s = words-some (tableRules rs n) (λ t. t) (tableWords rs n) refl s
 
--- THE LOOKUP
+-- THE LOOKUP, in a table by the rules
+
+module _ (rs : List Region) (n : ℕ) (a : Range) (rules : tableRules rs n ≡ true) where
+  -- no two regions hold the range's first word
+  one-start : (i j : ℕ) → StartsIn rs n a i → StartsIn rs n a j → i ≡ j
+  one-start i j h k = holds-unique rs n rules (firstOf a) i j (omega arith) (starts-in rs n a i h) (starts-in rs n a j k)
+
+  -- a region that holds it is the one found, and where none does none is
+  found-there : (i : ℕ) → StartsIn rs n a i → findRegion rs n a ≡ foundIn rs a i
+  unfolding findRegion
+  found-there i h =
+      let e = one-in anyRight rs n (firstOf a) i (starts-in rs n a i h) in
+      let k : regionOf rs n (firstOf a) ≡ i =
+      one-start (regionOf rs n (firstOf a)) i (starts-out rs n a (regionOf rs n (firstOf a)) (region-holds rs n (firstOf a) e)) h in
+      rw (e, k)
+
+  found-nowhere : startsInside rs n a ≡ false → findRegion rs n a ≡ StartsOutside
+  unfolding findRegion
+  found-nowhere h = rw h
+
+  -- the region that holds its first word, or none does
+  start-or-none : {P : Type 0} → ((i : ℕ) → StartsIn rs n a i → P) → (startsInside rs n a ≡ false → P) → P
+  start-or-none f g =
+      either (startsInside rs n a)
+      (λ h. let r = one-out anyRight rs n (firstOf a) h in f (r .0) (starts-out rs n a (r .0) (r .1)))
+      g
+
+  -- it holds the range whole exactly if the range ends by its end
+  held : (i : ℕ) → StartsIn rs n a i → leb (endOf a) (endOf (rangeAt rs i)) ≡ true → LiesIn anyRight rs n a i
+  held i h l = record { in-use = h .in-use; from = h .from; to = leb-true _ _ l; allowed = refl }
+
+  not-held : (i : ℕ) → leb (endOf a) (endOf (rangeAt rs i)) ≡ false → LiesIn anyRight rs n a i → ⊥
+  not-held i l h = contra (le-leb _ _ (h .to)) l
+
+  -- the spot field by field
+  spot-plain : (i offset : ℕ) → Lies rs n a i offset
+      → spotIn rs a i ≡ record { region = i; index = record { 0 = firstWord rs i + offset }; load = regionAt rs i .load; dump = regionAt rs i .dump }
+  spot-plain i offset l =
+      let e = l .from in
+      let w = words-sum rs i in
+      let x : indexIn rs a i ≡ firstWord rs i + offset = omega arith in
+      ap (λ (k : ℕ). record { region = i; index = record { 0 = k }; load = regionAt rs i .load; dump = regionAt rs i .dump }) x
+
+  when-whole : (i : ℕ) → StartsIn rs n a i → LiesIn anyRight rs n a i → FoundWhen rs n a (At (spotIn rs a i))
+  when-whole i h l =
+      record {
+        outside = (λ e. absurd (omega arith), λ f. absurd (f i h));
+        runs-out = (λ e. absurd (omega arith), λ (j, k, m). absurd (m (rw (one-start j i k h) l)));
+        found = (λ e. (i, h, l), λ q. refl);
+        spot = λ j o k m. ap (λ x. At (spotIn rs a x)) (one-start i j h k) ∙ ap (λ (x : Spot). At x) (spot-plain j o m);
+      }
+
+  when-short : (i : ℕ) → StartsIn rs n a i → (LiesIn anyRight rs n a i → ⊥) → FoundWhen rs n a EndsOutside
+  when-short i h l =
+      record {
+        outside = (λ e. absurd (omega arith), λ f. absurd (f i h));
+        runs-out = (λ e. (i, h, l), λ q. refl);
+        found = (λ e. absurd (omega arith), λ (j, k, m). absurd (l (rw (one-start i j h k) m)));
+        spot = λ j o k m. absurd (l (rw (one-start i j h k) (lies-in rs n a j o m)));
+      }
+
+  when-none : ((i : ℕ) → StartsIn rs n a i → ⊥) → FoundWhen rs n a StartsOutside
+  when-none f =
+      record {
+        outside = (λ e. f, λ g. refl);
+        runs-out = (λ e. absurd (omega arith), λ (j, k, m). absurd (f j k));
+        found = (λ e. absurd (omega arith), λ (j, k, m). absurd (f j k));
+        spot = λ j o k m. absurd (f j k);
+      }
+
+  found-when : FoundWhen rs n a (findRegion rs n a)
+  found-when =
+      start-or-none
+      (λ i h.
+      rw (found-there i h)
+      (either (leb (endOf a) (endOf (rangeAt rs i)))
+      (λ l. rw l (when-whole i h (held i h l)))
+      (λ l. rw l (when-short i h (not-held i l)))))
+      (λ q. rw (found-nowhere q) (when-none (λ i h. contra (one-in anyRight rs n (firstOf a) i (starts-in rs n a i h)) q)))
+
+  -- by the region that holds the range whole, if it has a word or more
+  pub found-whole : 1 ≤ a .words
+      → findRegion rs n a
+      ≡ cond (inOneRegion anyRight rs n a) (At (spotIn rs a (regionOf rs n a))) (cond (startsInside rs n a) EndsOutside StartsOutside)
+  found-whole one =
+      either (inOneRegion anyRight rs n a)
+      (λ h. let r = region-holds rs n a h in found-there _ (starts-there rs n a one _ r) ∙ rw (h, le-leb _ _ (r .to)))
+      (λ h. start-or-none
+      (λ i s.
+      let q = one-in anyRight rs n (firstOf a) i (starts-in rs n a i s) in
+      found-there i s
+      ∙ either (leb (endOf a) (endOf (rangeAt rs i)))
+      (λ l. absurd (contra (one-in anyRight rs n a i (held i s l)) h))
+      (λ l. rw (h, q, l)))
+      (λ q. found-nowhere q ∙ rw (h, q)))
 
 module _ (rs : List Region) (n : ℕ) (a : Range) where
-  -- in a table by the rules the search by halving finds what the table says
+  -- the search by halving finds what the table says
   pub found-in-order : {f : Found} → f ≡ findByHalving rs (min n 16) a → tableRules rs n ≡ true → f ≡ findRegion rs n a
   found-in-order e rules = rw (min-eq-left {n = n} {m = 16} (table-count rs n rules .1)) at e ∙ right-in-order rs n a rules .1
 
+  -- and each number exactly in its case
+  pub found-exactly : {f : Found} → f ≡ findByHalving rs (min n 16) a → tableRules rs n ≡ true → FoundWhen rs n a f
+  found-exactly e rules = rw (found-in-order e rules) (found-when rs n a rules)
+
   -- a range of a table by the rules lies in one region at most, so the right of the region found decides
   pub can-dump-found : tableRules rs n ≡ true → 1 ≤ a .words → canDump (findRegion rs n a) ≡ inOneRegion dumpRight rs n a
-  unfolding findRegion
   can-dump-found rules one =
-      either (inOneRegion anyRight rs n a)
+      rw (found-whole rs n a rules one)
+      (either (inOneRegion anyRight rs n a)
       (λ h. rw h (here h))
-      (λ h. rw h (sym (either (inOneRegion dumpRight rs n a) (λ d. absurd (contra (one-any dumpRight rs n a d) h)) (λ d. d))))
+      (λ h. rw h (missed ∙ sym (either (inOneRegion dumpRight rs n a) (λ d. absurd (contra (one-any dumpRight rs n a d) h)) (λ d. d)))))
     where
+      missed : canDump (cond (startsInside rs n a) EndsOutside StartsOutside) ≡ false
+      missed = either (startsInside rs n a) (λ q. rw q) (λ q. rw q)
+
       here : inOneRegion anyRight rs n a ≡ true → regionAt rs (regionOf rs n a) .dump ≡ inOneRegion dumpRight rs n a
       here h =
           let r = region-holds rs n a h in

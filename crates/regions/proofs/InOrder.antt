@@ -10,13 +10,13 @@ use lib.ListN.{length, getD}
 use borrow.Author.Tests.{ltb-true, ltb-false, le-leb, lt-leb, lt-ltb, le-ltb}
 use Rattle.lists.proofs.Tests.{either, contra, by-lt, by-order}
 use Rattle.lists.proofs.Below.{first-is, first-none, first-found, none-of}
-use Rattle.rules.specs.Regions.{endOf, within, rangeAt, tableRules, anyRight, holds, inOneRegion, imageIndex, regionOf}
+use Rattle.rules.specs.Regions.{endOf, within, regionAt, rangeAt, tableRules, anyRight, holds, inOneRegion, firstOf, regionOf}
 use Rattle.rules.specs.GoodWhen.{LiesIn}
 use Rattle.rules.proofs.Table.{table-count, ordered, holds-in, holds-out}
 use Rattle.rules.specs.declared.Range.{Range}
 use Rattle.rules.specs.declared.Region.{Region}
-use Rattle.regions.specs.Halving.{middle, nextFirst, oneLeft, comparisons, isShort, candidate, regionByHalving, compared, AtMostFive, findByHalving, RightInOrder}
-use Rattle.regions.specs.Lookup.{findRegion}
+use Rattle.regions.specs.Halving.{middle, nextFirst, oneLeft, comparisons, isShort, candidate, regionByHalving, compared, AtMostFive, NumberSettled, findByHalving, RightInOrder}
+use Rattle.regions.specs.Lookup.{foundNumber, foundIn, findRegion}
 
 -- ONE ROUND
 
@@ -127,13 +127,14 @@ module _ (rs : List Region) (n : ℕ) (rules : tableRules rs n ≡ true) (a : Ra
           let f = o .from in
           contra (holds-in anyRight rs n a r (record { in-use = omega arith; from = omega arith; to = t; allowed = refl })) h
 
-  found-right : findByHalving rs n a ≡ findRegion rs n a
-  unfolding findByHalving findRegion imageIndex inOneRegion regionOf
-  found-right =
-      rw (in-order)
-      (either (inOneRegion anyRight rs n a)
-      (λ h. let r = first-found (holds anyRight rs a) n h in rw (h, lt-ltb (regionOf rs n a) n (r .0)))
-      (λ h. rw (h, first-none (holds anyRight rs a) n h, le-ltb n n (omega arith))))
+pub found-right : (rs : List Region) (n : ℕ) → tableRules rs n ≡ true → (a : Range) → findByHalving rs n a ≡ findRegion rs n a
+unfolding findByHalving findRegion inOneRegion regionOf
+found-right rs n rules a =
+    let first : Range = firstOf a in
+    rw (in-order rs n rules first)
+    (either (inOneRegion anyRight rs n first)
+    (λ h. let r = first-found (holds anyRight rs first) n h in rw (h, lt-ltb (regionOf rs n first) n (r .0)))
+    (λ h. rw (h, first-none (holds anyRight rs first) n h, le-ltb n n (omega arith))))
 
 pub right-in-order : RightInOrder
 right-in-order rs n a rules = (in-order rs n rules a, found-right rs n rules a)
@@ -187,4 +188,28 @@ at-most-five rs n a =
           let at = last-one (isShort rs a) 4 0 n in
           let region = rw (at .2) at (h (at .0) (at .1)) in
           ap (λ k. cond (holds anyRight other a k) k n) same ∙ ap (λ (r : Region). cond (within a (r .range) && true) (candidate rs n a) n) region;
+    }
+
+-- the number of what is found looks at no other region than the one that holds the first word
+number-in : (rs : List Region) (a : Range) (k : ℕ) → foundNumber (foundIn rs a k) ≡ cond (leb (endOf a) (endOf (rangeAt rs k))) 0 19
+number-in rs a k = either (leb (endOf a) (endOf (rangeAt rs k))) (λ e. rw e) (λ e. rw e)
+
+-- and that is the one that was left, which was compared
+pub number-settled : (rs : List Region) (n : ℕ) (a : Range) → NumberSettled rs n a
+unfolding compared findByHalving regionByHalving candidate
+number-settled rs n a =
+    record {
+      five = at-most-five rs n (firstOf a) .five;
+      settle =
+          λ other h.
+          let first : Range = firstOf a in
+          let left : ℕ = candidate rs n first in
+          let at = last-one (isShort rs first) 4 0 n in
+          let region : regionAt other left ≡ regionAt rs left = rw (at .2) at (h (at .0) (at .1)) in
+          let end : leb (endOf a) (endOf (rangeAt other left)) ≡ leb (endOf a) (endOf (rangeAt rs left)) =
+          ap (λ (r : Region). leb (endOf a) (endOf (r .range))) region in
+          rw (at-most-five rs n first .settle other h)
+          (either (holds anyRight rs first left)
+          (λ e. rw e (either (ltb left n) (λ l. rw (l, number-in other a left, number-in rs a left, end)) (λ l. rw l)))
+          (λ e. rw (e, le-ltb n n (omega arith))));
     }

@@ -8,18 +8,17 @@ use native.Mathlib.Numerals.{add-one}
 use native.Mathlib.Omega.{arith}
 use lib.Dec.{leb, ltb, eqb}
 use lib.ListN.{length}
-use borrow.Author.Tests.{ltb-false, eqb-false, ne-eqb, le-leb, lt-ltb, le-ltb}
+use borrow.Author.Tests.{ltb-false, eqb-false, ne-eqb, le-leb, lt-leb, lt-ltb, le-ltb}
 use Rattle.lists.specs.Below.{allBelow}
 use Rattle.lists.proofs.Tests.{either, contra, and-right, or-left, or-right}
 use Rattle.lists.proofs.Below.{all-at, sum-more}
-use Rattle.rules.specs.Regions.{startOf, endOf, regionAt, rangeAt, endBefore, regionRules, tableRules, anyRight, holds, wordsBelow, imageLength}
+use Rattle.rules.specs.Regions.{startOf, endOf, regionAt, rangeAt, endBefore, regionRules, tableRules, anyRight, holds, firstOf, wordsBelow, imageLength}
 use Rattle.rules.proofs.Table.{table-count}
 use Rattle.rules.specs.declared.Range.{Range}
-use Rattle.rules.specs.declared.Refusal.the-variants.{OutsideRegions}
 use Rattle.rules.specs.declared.Region.{Region}
 use Rattle.regions.specs.Halving.{middle, nextFirst, oneLeft, comparisons, candidate, regionByHalving, compared, findByHalving}
 use Rattle.regions.specs.Lookup.{holdsBy, tableWords}
-use Rattle.regions.specs.declared.Found.the-variants.{Missed, At}
+use Rattle.regions.specs.declared.Found.the-variants.{At, StartsOutside, EndsOutside}
 use Rattle.regions.proofs.InOrder.{left-end, left-round, compared-end, compared-round, few, reach}
 
 pub and-true : (a : Bool) → (a && true) ≡ a
@@ -149,12 +148,17 @@ module _ (rs : List Region) (m : ℕ) (a : Range) (end : ℕ) (ee : end ≡ endO
   region-none h = rw (is-left, sym held-is ∙ h)
 
 -- THE LOOKUP, by the region that the search gave
-module _ (rs : List Region) (m : ℕ) (a : Range) (k : ℕ) (ek : k ≡ regionByHalving rs m a) where
-  pub found-none : m ≤ k → Missed OutsideRegions ≡ findByHalving rs m a
+module _ (rs : List Region) (m : ℕ) (a : Range) (k : ℕ) (ek : k ≡ regionByHalving rs m (firstOf a)) where
+  pub found-none : m ≤ k → StartsOutside ≡ findByHalving rs m a
   unfolding findByHalving
   found-none l = rw (← ek, le-ltb k m l)
 
-  pub found-at : k < m → (below before : ℕ) → below ≡ wordsBelow rs k → before ≡ (startOf a - startOf (rangeAt rs k)) / 4
+  pub found-short : k < m → endOf (rangeAt rs k) < endOf a → EndsOutside ≡ findByHalving rs m a
+  unfolding findByHalving
+  found-short l q = rw (← ek, lt-ltb k m l, lt-leb (endOf a) (endOf (rangeAt rs k)) q)
+
+  pub found-at : k < m → endOf a ≤ endOf (rangeAt rs k) → (below before : ℕ) → below ≡ wordsBelow rs k
+      → before ≡ (startOf a - startOf (rangeAt rs k)) / 4
       → At (record { region = k; index = record { 0 = below + before }; load = regionAt rs k .load; dump = regionAt rs k .dump }) ≡ findByHalving rs m a
   unfolding findByHalving
-  found-at l below before eb eo = rw (← ek, lt-ltb k m l, eb, eo)
+  found-at l q below before eb eo = rw (← ek, lt-ltb k m l, le-leb (endOf a) (endOf (rangeAt rs k)) q, eb, eo)

@@ -1,4 +1,5 @@
 -- Paper 02, A3: the region that holds a range, searched by halving. What the search answers for every table, in order or not, and what it compares.
+-- The lookup searches for the first word of its range (A5).
 -- A table by the rules is in order, and there it finds paper 01's region: `RightInOrder`.
 use mathlib.Core.Path.{_≡_}
 use mathlib.Core.Bool.{Bool, true, cond}
@@ -6,13 +7,12 @@ use mathlib.Core.List.{List, [], _∷_}
 use Prim.Native.Nat.{ℕ, zero, suc, _+_, _-_, _/_, _≤_, _<_}
 use lib.Dec.{leb, ltb}
 use lib.ListN.{length, getD}
-use Rattle.rules.specs.Regions.{endOf, regionAt, rangeAt, tableRules, anyRight, holds, regionOf, indexIn}
+use Rattle.rules.specs.Regions.{endOf, regionAt, rangeAt, tableRules, anyRight, holds, firstOf, regionOf}
 use Rattle.rules.specs.declared.Range.{Range}
-use Rattle.rules.specs.declared.Refusal.the-variants.{OutsideRegions}
 use Rattle.rules.specs.declared.Region.{Region}
-use Rattle.regions.specs.Lookup.{findRegion}
+use Rattle.regions.specs.Lookup.{foundNumber, foundIn, findRegion}
 use Rattle.regions.specs.declared.Found.{Found}
-use Rattle.regions.specs.declared.Found.the-variants.{Missed, At}
+use Rattle.regions.specs.declared.Found.the-variants.{StartsOutside}
 
 -- HALVING. The `left` regions from `first` on are those that may still hold the range; `short i` says that region i ends before the range does.
 
@@ -58,20 +58,21 @@ pub record AtMostFive (rs : List Region) (n : ℕ) (a : Range) : Type 0 where
       → ((j : ℕ) → j < length (compared rs n a) → regionAt other (getD (compared rs n a) j 0) ≡ regionAt rs (getD (compared rs n a) j 0))
       → regionByHalving other n a ≡ regionByHalving rs n a
 
--- THE LOOKUP by this search: the region found, its rights, and where the range begins in the image; or number 10
+-- THE LOOKUP: this search for the range's first word, and whether the region that holds it holds the range whole
 unfoldable pub findByHalving : List Region → ℕ → Range → Found
 findByHalving rs n a =
-    cond (ltb (regionByHalving rs n a) n)
-    (At
-    (record {
-      region = regionByHalving rs n a;
-      index = record { 0 = indexIn rs a (regionByHalving rs n a) };
-      load = regionAt rs (regionByHalving rs n a) .load;
-      dump = regionAt rs (regionByHalving rs n a) .dump;
-    }))
-    (Missed OutsideRegions)
+    cond (ltb (regionByHalving rs n (firstOf a)) n) (foundIn rs a (regionByHalving rs n (firstOf a))) StartsOutside
 
--- THE LAW: in a table by the rules the search finds the region that holds the range whole, or n where none does, and so the lookup is that of the table
+-- THE LAWS. The regions that the search for the first word compares, at most five, settle the number of the lookup's answer: no sixth decides whether the
+-- range runs out.
+pub record NumberSettled (rs : List Region) (n : ℕ) (a : Range) : Type 0 where
+  pub five : length (compared rs n (firstOf a)) ≤ 5
+  pub settle : (other : List Region)
+      → ((j : ℕ) → j < length (compared rs n (firstOf a))
+      → regionAt other (getD (compared rs n (firstOf a)) j 0) ≡ regionAt rs (getD (compared rs n (firstOf a)) j 0))
+      → foundNumber (findByHalving other n a) ≡ foundNumber (findByHalving rs n a)
+
+-- In a table by the rules the search finds the region that holds a range whole, or n where none does, and so the lookup is that of the table.
 abbrev pub RightInOrder : Type 0
 RightInOrder =
     (rs : List Region) (n : ℕ) (a : Range) → tableRules rs n ≡ true

@@ -1,14 +1,19 @@
--- The rules of one region by its numbers, the length of a table's image, and what the region lookup answers.
-use mathlib.Core.Bool.{Bool, false, _&&_, cond}
+-- The rules of one region by its numbers, the length of a table's image, and what the region lookup answers (paper 02, A5).
+use mathlib.Core.Path.{_≡_}
+use mathlib.Core.Logic.{_↔_}
+use mathlib.Core.Bool.{Bool, true, false, _&&_, cond}
 use mathlib.Core.List.{List}
 use Prim.Native.Nat.{ℕ, _+_, _*_, _%_}
 use lib.Dec.{leb, eqb}
-use Rattle.rules.specs.Regions.{regionAt, tableRules, anyRight, inOneRegion, imageLength, regionOf, imageIndex}
+use lib.ListN.{getD}
+use Rattle.rules.specs.Regions.{endOf, regionAt, rangeAt, tableRules, firstOf, startsInside, imageLength, regionOf, indexIn}
+use Rattle.rules.specs.GoodWhen.{LiesIn, StartsIn, firstWord, Lies}
+use Rattle.rules.specs.PlainWords.{emptyRegion}
 use Rattle.rules.specs.declared.Range.{Range}
-use Rattle.rules.specs.declared.Refusal.the-variants.{OutsideRegions}
 use Rattle.rules.specs.declared.Region.{Region}
 use Rattle.regions.specs.declared.Found.{Found}
-use Rattle.regions.specs.declared.Found.the-variants.{Missed, At}
+use Rattle.regions.specs.declared.Found.the-variants.{At, StartsOutside, EndsOutside}
+use Rattle.regions.specs.declared.Spot.{Spot}
 
 -- what `regionRules` asks of a region with this start and size, where the region before ends at `before`
 abbrev pub rulesBy : ℕ → ℕ → ℕ → Bool
@@ -23,20 +28,48 @@ holdsBy start words from end = leb start from && leb end (start + 4 * words)
 unfoldable pub tableWords : List Region → ℕ → ℕ
 tableWords rs n = cond (tableRules rs n) (imageLength rs n) 0
 
--- the region that holds the range whole, its rights, and where the range begins in the image; or number 10
+-- FINDING A RANGE
+
+-- the paper's number of each answer: 0 where the range was found, 10 where its first word is in no region, and 19 where it starts inside one and
+-- runs out of it
+abbrev pub foundNumber : Found → ℕ
+foundNumber (At spot) = 0
+foundNumber StartsOutside = 10
+foundNumber EndsOutside = 19
+
+-- region k, its rights, and where a range that it holds begins in the image
+abbrev pub spotIn : List Region → Range → ℕ → Spot
+spotIn rs a k = record { region = k; index = record { 0 = indexIn rs a k }; load = regionAt rs k .load; dump = regionAt rs k .dump }
+
+-- what is found of a range whose first word region k holds
+abbrev pub foundIn : List Region → Range → ℕ → Found
+foundIn rs a k = cond (leb (endOf a) (endOf (rangeAt rs k))) (At (spotIn rs a k)) EndsOutside
+
+-- the region that holds the range's first word, and whether it holds the range whole
 unfoldable pub findRegion : List Region → ℕ → Range → Found
-findRegion rs n a =
-    cond (inOneRegion anyRight rs n a)
-    (At
-    (record {
-      region = regionOf rs n a;
-      index = imageIndex rs n a;
-      load = regionAt rs (regionOf rs n a) .load;
-      dump = regionAt rs (regionOf rs n a) .dump;
-    }))
-    (Missed OutsideRegions)
+findRegion rs n a = cond (startsInside rs n a) (foundIn rs a (regionOf rs n (firstOf a))) StartsOutside
 
 -- what was found has the dump right
 abbrev pub canDump : Found → Bool
-canDump (Missed r) = false
 canDump (At spot) = spot .dump
+canDump StartsOutside = false
+canDump EndsOutside = false
+
+-- IN LOGIC, for a table by the rules: each number exactly in its case, and where the range was found
+pub record FoundWhen (rs : List Region) (n : ℕ) (a : Range) (f : Found) : Type 0 where
+  -- 10: no region in use holds its first word
+  pub outside : (foundNumber f ≡ 10) ↔ ((i : ℕ) → StartsIn rs n a i → ⊥)
+  -- 19: one does, and it does not hold the range whole
+  pub runs-out : (foundNumber f ≡ 19) ↔ ((i : ℕ) × StartsIn rs n a i × (LiesIn (λ (g : Region). true) rs n a i → ⊥))
+  -- 0: one does, and it holds the range whole
+  pub found : (foundNumber f ≡ 0) ↔ ((i : ℕ) × StartsIn rs n a i × LiesIn (λ (g : Region). true) rs n a i)
+  -- then the region's number, the index of the range's first word, which is word `offset` of that region, and the region's rights
+  pub spot : (i offset : ℕ) → StartsIn rs n a i → Lies rs n a i offset
+      → f
+      ≡ At
+      (record {
+        region = i;
+        index = record { 0 = firstWord rs i + offset };
+        load = getD rs i emptyRegion .load;
+        dump = getD rs i emptyRegion .dump;
+      })

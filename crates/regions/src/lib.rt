@@ -1,13 +1,16 @@
 // Regions: the rules of one, what a lookup answers, and the table of a State. The table of a block of words is in lent_regions.
 ghost use mathlib.Core.Path.{_≡_};
-ghost use Prim.Native.Nat.{_+_, _*_, _-_, _/_, _≤_, min};
+ghost use mathlib.Core.Bool.{true};
+ghost use mathlib.Core.List.{List};
+ghost use Prim.Native.Nat.{ℕ, _+_, _*_, _-_, _/_, _≤_, min};
 ghost use lib.ListN.{length};
-ghost use Rattle.rules.specs.Regions.{wordsBelow};
-ghost use Rattle.regions.specs.Halving.{regionByHalving, compared, AtMostFive, RightInOrder, findByHalving};
-ghost use Rattle.regions.specs.Lookup.{rulesBy, holdsBy, tableWords, canDump};
+ghost use Rattle.rules.specs.Regions.{tableRules, firstOf, wordsBelow};
+ghost use Rattle.regions.specs.Halving.{regionByHalving, compared, AtMostFive, NumberSettled, RightInOrder, findByHalving};
+ghost use Rattle.regions.specs.Lookup.{rulesBy, holdsBy, tableWords, canDump, FoundWhen};
 ghost use Rattle.regions.specs.SearchExamples.{SearchExamples};
+ghost use Rattle.rules.specs.declared.Range.{Range};
+ghost use Rattle.rules.specs.declared.Region.{Region};
 use rules::Range;
-use rules::Refusal;
 use rules::Region;
 use rules::WordIndex;
 
@@ -19,10 +22,11 @@ pub struct Spot {
     pub dump: bool,
 }
 
-// Where a range lies, or the number for one that lies whole in no region.
+// Where a range lies; or that its first word is in no region, or that it starts inside a region and runs out of it.
 pub enum Found {
-    Missed(Refusal),
     At(Spot),
+    StartsOutside,
+    EndsOutside,
 }
 
 // What a search answers: the region, or the number of entries looked at where none holds the range; and how many regions it compared.
@@ -65,6 +69,14 @@ pub fn words_before(start: u32, from: u32) -> u32
     if from < start { 0 } else { (from - start) / 4 }
 }
 
+// The first word of a range, or the word that an empty one would begin with.
+pub fn first_word(a: Range) -> Range
+    ensures { λ w. ⌜ w ≡ firstOf a ⌝ }
+{
+    let start = a.start;
+    Range { start, words: 1 }
+}
+
 // The entries to look at: no more than there are.
 pub fn entries(n: usize) -> usize
     ensures { λ m. ⌜ m ≡ min n 16 ⌝ }
@@ -77,8 +89,9 @@ pub fn can_dump(f: Found) -> bool
     ensures { λ b. ⌜ b ≡ canDump f ⌝ }
 {
     match f {
-        Found::Missed(_) => false,
         Found::At(spot) => spot.dump,
+        Found::StartsOutside => false,
+        Found::EndsOutside => false,
     }
 }
 
@@ -155,16 +168,19 @@ fn words_below(rs: [Region; 16], k: usize) -> usize
     total
 }
 
-// The region that holds the range whole, and where the range begins in the image.
+// The region that holds the range whole, and where the range begins in the image; or how it missed. The search is for its first word.
 pub fn find_region(rs: [Region; 16], n: usize, a: Range) -> Found
-    ensures { λ f. ⌜ f ≡ findByHalving rs (min n 16) a ⌝ }
+    ensures { λ f. ⌜ (f ≡ findByHalving rs (min n 16) a) × (tableRules rs n ≡ true → FoundWhen rs n a f) ⌝ }
 {
-    let searched = region_of(rs, n, a);
+    let searched = region_of(rs, n, first_word(a));
     let k = searched.region;
     if entries(n) <= k {
-        return Found::Missed(Refusal::OutsideRegions);
+        return Found::StartsOutside;
     }
     let r = rs[k];
+    if end_of(r.range.start.0, r.range.words) < end_of(a.start.0, a.words) {
+        return Found::EndsOutside;
+    }
     let below = words_below(rs, k);
     let before = words_before(r.range.start.0, a.start.0) as usize;
     let at = below + before;
@@ -176,7 +192,12 @@ pub fn find_region(rs: [Region; 16], n: usize, a: Range) -> Found
     })
 }
 
-// THE LAW, and examples. These functions do nothing: the contract of each is what is proved.
+// THE LAWS, and examples. These functions do nothing: the contract of each is what is proved.
+
+// The regions compared, at most five, settle the number of the lookup's answer.
+pub fn number_is_settled()
+    ensures { λ r. ⌜ ((rs : List Region) (n : ℕ) (a : Range) → NumberSettled rs n a) ⌝ }
+{}
 
 // In a table by the rules the search by halving finds the region of paper 01.
 pub fn search_is_right()

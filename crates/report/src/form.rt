@@ -98,7 +98,7 @@ pub fn result(n: u32) {
         |packet length wrong for its code\
         |another unit\
         |field out of its bounds\
-        |range not whole in one region, or no such pool\
+        |first word in no region, or no such pool\
         |region lacks the right\
         |transaction number already busy\
         |four places busy\
@@ -106,7 +106,8 @@ pub fn result(n: u32) {
         |pool blocks damaged\
         |no dump is busy\
         |table, pools or unit break a rule, or no symbol table\
-        |no such symbol",
+        |no such symbol\
+        |range starts inside a region and runs out of it",
         n as usize,
         [0; 3],
     );

@@ -31,6 +31,7 @@ pub fn refusal_number(r: Refusal) -> u32
         Refusal::NothingToSend => 16,
         Refusal::BadTable => 17,
         Refusal::UnknownSymbol => 18,
+        Refusal::RunsOut => 19,
     }
 }
 

@@ -40,5 +40,5 @@ module _ (s : State) (c : CommandArgs) (good : goodState s ≡ true) (image : le
         pool = λ e. when _ (decode-pool (c .packet) e) (pool-out s c) (pool-in s c);
         value = λ e. when _ (decode-value (c .packet) e) (value-out s c) (value-in s c);
         by-name = λ e b. when _ (decode-by-name (c .packet) e) (by-name-out s c b) (by-name-in s c);
-        other = λ n₀ n₁ n₄ n₇ n₈ n₉ h. contra refl (tests-of s c Unknown (decode-other (c .packet) n₀ n₁ n₄ n₇ n₈ n₉) h .known);
+        other = λ n₀ n₁ n₄ n₇ n₈ n₉ h. contra refl (tests-of s c Unknown (decode-other (c .packet) n₀ n₁ n₄ n₇ n₈ n₉) h .laid .known);
       }

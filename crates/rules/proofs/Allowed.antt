@@ -2,9 +2,9 @@
 -- Assumes nothing.
 use mathlib.Core.Path.{_≡_, refl, sym, ap, _∙_}
 use mathlib.Core.Logic.{_≢_}
-use mathlib.Core.Bool.{Bool, true, _&&_, not}
+use mathlib.Core.Bool.{Bool, true, false, _&&_, not}
 use mathlib.Core.List.{List}
-use Prim.Native.Nat.{ℕ, _+_}
+use Prim.Native.Nat.{ℕ, _+_, _%_, _≤_, _<_}
 use native.Mathlib.Omega.{arith}
 use lib.Dec.{leb, eqb}
 use lib.ListN.{length, getD}
@@ -16,7 +16,7 @@ use Rattle.wire.specs.ByByte.{two, four}
 use Rattle.wire.specs.Xor.{xorAll}
 use Rattle.wire.proofs.ByByte.{at-two, at-four}
 use Rattle.symbols.specs.Table.{symbolTable, hasName, valueOf}
-use Rattle.rules.specs.Regions.{aligned, loadRight, dumpRight}
+use Rattle.rules.specs.Regions.{startOf, aligned, loadRight, dumpRight, inOneRegion, startsInside, runsOut}
 use Rattle.rules.specs.States.{contextAt, busyWith}
 use Rattle.rules.specs.Packets.{versionOf, typeOf, secondHeaderOf, sequenceFlagsOf, lengthFieldOf, zeroBitOf, primaryRules, wellFormed, apidOf, functionCodeOf, requestOf, nameSizeOf, symbolRequestOf, decode, nameFits, fieldRules, zeroRules, nameIn, commandUnit, commandTransaction}
 use Rattle.rules.specs.Pools.{blocksOf, isDamaged}
@@ -28,10 +28,12 @@ use Rattle.rules.specs.declared.Context.{Context}
 use Rattle.rules.specs.declared.Context.the-variants.{Idle, Busy}
 use Rattle.rules.specs.declared.Command.the-variants.{Dump, Cancel, Load, PoolStatistics, SymbolValue, DumpSymbol}
 use Rattle.rules.specs.declared.Decoded.the-variants.{Unknown, Known}
+use Rattle.rules.specs.declared.Range.{Range}
+use Rattle.rules.specs.declared.Region.{Region}
 use Rattle.rules.specs.declared.State.{State}
-use Rattle.rules.proofs.Table.{one-out, one-in, one-any}
+use Rattle.rules.proofs.Table.{one-out, one-in, one-any, starts-whole}
 use Rattle.rules.proofs.Pools.{blocks-tiles, tiles-blocks}
-use Rattle.rules.proofs.Passed.{Tested, undamaged}
+use Rattle.rules.proofs.Passed.{Laid, Tested, undamaged}
 use Rattle.symbols.proofs.Logic.{table-when, resolves-when}
 use Rattle.rules.proofs.Offsets.{reached-is, reached-fits, fits-reached, offset-fits}
 
@@ -121,6 +123,14 @@ module _ (p : List ℕ) where
 
 -- WHAT ALLOWS EACH COMMAND
 
+-- a range of a word or more that a region with some right holds passes 10 and 19
+held : (right : Region → Bool) (rs : List Region) (n : ℕ) (a : Range) → 1 ≤ a .words → inOneRegion right rs n a ≡ true
+    → (not (startsInside rs n a) ≡ false) × (runsOut rs n a ≡ false)
+held right rs n a some h =
+    let w = one-any right rs n a h in
+    let i = starts-whole rs n a some w in
+    (ap not i, rw (w, i))
+
 pub idle-out : (a : Context) → isIdle a ≡ true → a ≡ Idle
 idle-out Idle h = refl
 idle-out (Busy d) h = absurd (contra h refl)
@@ -136,10 +146,10 @@ module _ (s : State) (c : CommandArgs) where
   pub dump-out : Tested s c (Known (Dump (requestOf (c .packet)))) → DumpAllowed s (c .packet)
   unfolding fieldRules anyWith anyIdle
   dump-out t =
-      let f = not-false _ (t .fields) in
+      let f = not-false _ (t .laid .fields) in
       let i = any-at (idleAt s) 4 (not-false _ (t .place)) in
       record {
-        bytes = eqb-true _ _ (not-false _ (t .bytes));
+        bytes = eqb-true _ _ (not-false _ (t .laid .bytes));
         aligned = eqb-true _ _ (and-left (aligned (rangeOf (c .packet))) (leb 1 (rangeOf (c .packet) .words)) f);
         some = leb-true _ _ (and-right (aligned (rangeOf (c .packet))) (leb 1 (rangeOf (c .packet) .words)) f);
         region = one-out dumpRight (s .regions) (s .count) (rangeOf (c .packet)) (not-false _ (t .right));
@@ -147,18 +157,27 @@ module _ (s : State) (c : CommandArgs) where
         place = (i .0, i .1, idle-out _ (i .2));
       }
 
-  pub dump-in : DumpAllowed s (c .packet) → Tested s c (Known (Dump (requestOf (c .packet))))
-  unfolding fieldRules anyWith anyIdle
-  dump-in a =
-      let r = one-in dumpRight (s .regions) (s .count) (rangeOf (c .packet)) (a .region .0) (a .region .1) in
+  pub dump-laid : length (c .packet) ≡ 16 → startOf (rangeOf (c .packet)) % 4 ≡ 0 → 1 ≤ rangeOf (c .packet) .words → Laid c (Known (Dump (requestOf (c .packet))))
+  unfolding fieldRules
+  dump-laid bytes whole some =
       record {
         known = refl;
-        bytes = ap not (eq-eqb _ _ (a .bytes));
+        bytes = ap not (eq-eqb _ _ bytes);
         table = refl;
         named = refl;
         range = refl;
-        fields = ap not (and-both (eq-eqb _ _ (a .aligned)) (le-leb _ _ (a .some)));
-        inside = ap not (one-any dumpRight (s .regions) (s .count) (rangeOf (c .packet)) r);
+        fields = ap not (and-both (eq-eqb _ _ whole) (le-leb _ _ some));
+      }
+
+  pub dump-in : DumpAllowed s (c .packet) → Tested s c (Known (Dump (requestOf (c .packet))))
+  unfolding anyWith anyIdle
+  dump-in a =
+      let r = one-in dumpRight (s .regions) (s .count) (rangeOf (c .packet)) (a .region .0) (a .region .1) in
+      let w = held dumpRight (s .regions) (s .count) (rangeOf (c .packet)) (a .some) r in
+      record {
+        laid = dump-laid (a .bytes) (a .aligned) (a .some);
+        inside = w .0;
+        whole = w .1;
         right = ap not r;
         new = none-of (numberAt s c) 4 (a .number);
         place = ap not (any-of (idleAt s) 4 (a .place .1) (ap isIdle (a .place .2)));
@@ -170,7 +189,7 @@ module _ (s : State) (c : CommandArgs) where
   unfolding anyWith
   cancel-out t =
       record {
-        bytes = eqb-true _ _ (not-false _ (t .bytes));
+        bytes = eqb-true _ _ (not-false _ (t .laid .bytes));
         busy = any-at (numberAt s c) 4 (not-false _ (t .busy));
       }
 
@@ -178,13 +197,9 @@ module _ (s : State) (c : CommandArgs) where
   unfolding fieldRules anyWith
   cancel-in a =
       record {
-        known = refl;
-        bytes = ap not (eq-eqb _ _ (a .bytes));
-        table = refl;
-        named = refl;
-        range = refl;
-        fields = refl;
+        laid = record { known = refl; bytes = ap not (eq-eqb _ _ (a .bytes)); table = refl; named = refl; range = refl; fields = refl };
         inside = refl;
+        whole = refl;
         right = refl;
         new = refl;
         place = refl;
@@ -198,28 +213,37 @@ module _ (s : State) (c : CommandArgs) where
       let m = aligned (rangeOf (c .packet)) in
       let a = leb 1 (rangeOf (c .packet) .words) in
       let b = leb (rangeOf (c .packet) .words) 11 in
-      let f = not-false (m && a && b) (t .fields) in
+      let f = not-false (m && a && b) (t .laid .fields) in
       let g = and-left (m && a) b f in
       record {
-        bytes = eqb-true _ _ (not-false _ (t .bytes));
+        bytes = eqb-true _ _ (not-false _ (t .laid .bytes));
         aligned = eqb-true _ _ (and-left m a g);
         some = leb-true _ _ (and-right m a g);
         most = leb-true _ _ (and-right (m && a) b f);
         region = one-out loadRight (s .regions) (s .count) (rangeOf (c .packet)) (not-false _ (t .right));
       }
 
-  pub load-in : LoadAllowed s (c .packet) → Tested s c (Known (Load (requestOf (c .packet))))
+  pub load-laid : length (c .packet) ≡ 60 → startOf (rangeOf (c .packet)) % 4 ≡ 0 → 1 ≤ rangeOf (c .packet) .words → rangeOf (c .packet) .words ≤ 11
+      → Laid c (Known (Load (requestOf (c .packet))))
   unfolding fieldRules
-  load-in a =
-      let r = one-in loadRight (s .regions) (s .count) (rangeOf (c .packet)) (a .region .0) (a .region .1) in
+  load-laid bytes whole some most =
       record {
         known = refl;
-        bytes = ap not (eq-eqb _ _ (a .bytes));
+        bytes = ap not (eq-eqb _ _ bytes);
         table = refl;
         named = refl;
         range = refl;
-        fields = ap not (and-both (and-both (eq-eqb _ _ (a .aligned)) (le-leb _ _ (a .some))) (le-leb _ _ (a .most)));
-        inside = ap not (one-any loadRight (s .regions) (s .count) (rangeOf (c .packet)) r);
+        fields = ap not (and-both (and-both (eq-eqb _ _ whole) (le-leb _ _ some)) (le-leb _ _ most));
+      }
+
+  pub load-in : LoadAllowed s (c .packet) → Tested s c (Known (Load (requestOf (c .packet))))
+  load-in a =
+      let r = one-in loadRight (s .regions) (s .count) (rangeOf (c .packet)) (a .region .0) (a .region .1) in
+      let w = held loadRight (s .regions) (s .count) (rangeOf (c .packet)) (a .some) r in
+      record {
+        laid = load-laid (a .bytes) (a .aligned) (a .some) (a .most);
+        inside = w .0;
+        whole = w .1;
         right = ap not r;
         new = refl;
         place = refl;
@@ -232,23 +256,23 @@ module _ (s : State) (c : CommandArgs) where
   pool-out t =
       let u = undamaged (blocksOf (poolWords s (poolOf (c .packet)) (c .image))) (t .blocks) in
       record {
-        bytes = eqb-true _ _ (not-false _ (t .bytes));
-        pool = leb-true _ _ (not-false _ (t .fields));
+        bytes = eqb-true _ _ (not-false _ (t .laid .bytes));
+        pool = leb-true _ _ (not-false _ (t .laid .fields));
         there = eqb-false _ _ (t .inside);
         blocks = (u .0, blocks-tiles _ _ (u .1));
       }
 
-  pub pool-in : PoolAllowed s c → Tested s c (Known (PoolStatistics (poolOf (c .packet))))
+  pub pool-laid : length (c .packet) ≡ 12 → poolOf (c .packet) ≤ 1 → Laid c (Known (PoolStatistics (poolOf (c .packet))))
   unfolding fieldRules
+  pool-laid bytes low =
+      record { known = refl; bytes = ap not (eq-eqb _ _ bytes); table = refl; named = refl; range = refl; fields = ap not (le-leb _ _ low) }
+
+  pub pool-in : PoolAllowed s c → Tested s c (Known (PoolStatistics (poolOf (c .packet))))
   pool-in a =
       record {
-        known = refl;
-        bytes = ap not (eq-eqb _ _ (a .bytes));
-        table = refl;
-        named = refl;
-        range = refl;
-        fields = ap not (le-leb _ _ (a .pool));
+        laid = pool-laid (a .bytes) (a .pool);
         inside = ne-eqb _ _ (a .there);
+        whole = refl;
         right = refl;
         new = refl;
         place = refl;
@@ -294,10 +318,10 @@ module _ (s : State) (c : CommandArgs) where
   value-out t =
       let m = nameFits (nameSizeOf (c .packet)) in
       let z = eqb (getD (c .packet) 11 0) 0 in
-      let f = not-false (m && z) (t .fields) in (
+      let f = not-false (m && z) (t .laid .fields) in (
         valueNamed,
-        symbol-out 60 (eqb-true _ _ (not-false _ (t .bytes))) (name-out (and-left m z f) (and-right m z f))
-            (not-false _ (t .table)) (not-false _ (t .named)),
+        symbol-out 60 (eqb-true _ _ (not-false _ (t .laid .bytes))) (name-out (and-left m z f) (and-right m z f))
+            (not-false _ (t .laid .table)) (not-false _ (t .laid .named)),
       )
 
   pub value-in : ValueAllowed c → Tested s c (Known (SymbolValue (nameSizeOf (c .packet))))
@@ -306,13 +330,17 @@ module _ (s : State) (c : CommandArgs) where
       let x = symbol-in (a .1) in
       let n = name-in (a .1 .allowed) in
       record {
-        known = refl;
-        bytes = ap not (eq-eqb _ _ (a .1 .bytes));
-        table = ap not (x .0);
-        fields = ap not (and-both (n .0) (n .1));
-        named = ap not (x .1);
-        range = refl;
+        laid =
+            record {
+              known = refl;
+              bytes = ap not (eq-eqb _ _ (a .1 .bytes));
+              table = ap not (x .0);
+              fields = ap not (and-both (n .0) (n .1));
+              named = ap not (x .1);
+              range = refl;
+            };
         inside = refl;
+        whole = refl;
         right = refl;
         new = refl;
         place = refl;
@@ -345,12 +373,12 @@ module _ (s : State) (c : CommandArgs) where
       let m = nameFits (nameSizeOf p) in
       let z = eqb (getD p 11 0) 0 in
       let w = eqb (beAt 2 p 66) 0 in
-      let f = not-false (m && (z && w)) (t .fields) in
+      let f = not-false (m && (z && w)) (t .laid .fields) in
       let zeros = and-right m (z && w) f in
       let fits = addressFits valueNamed (four p 60) in
       let whole = aligned (rangeFrom p addressNamed) in
       let one = leb 1 (two p 64) in
-      let g = not-false rangeAllowed (rw (at-four p 60, at-two p 64) at (t .range)) in
+      let g = not-false rangeAllowed (rw (at-four p 60, at-two p 64) at (t .laid .range)) in
       let h = and-left (fits && whole) one g in
       let low = offset-fits p bytes in
       let reached = fits-reached valueNamed (four p 60) (omega arith) (and-left fits whole h) in
@@ -358,8 +386,8 @@ module _ (s : State) (c : CommandArgs) where
       record {
         v = valueNamed;
         symbol =
-            symbol-out 68 (eqb-true _ _ (not-false _ (t .bytes))) (name-out (and-left m (z && w) f) (and-left z w zeros))
-            (not-false _ (t .table)) (not-false _ (t .named));
+            symbol-out 68 (eqb-true _ _ (not-false _ (t .laid .bytes))) (name-out (and-left m (z && w) f) (and-left z w zeros))
+            (not-false _ (t .laid .table)) (not-false _ (t .laid .named));
         zeros = sym (at-two p 66) ∙ eqb-true _ _ (and-right z w zeros);
         a = addressNamed;
         reached = reached .0;
@@ -371,26 +399,39 @@ module _ (s : State) (c : CommandArgs) where
         place = (i .0, i .1, idle-out _ (i .2));
       }
 
-  pub by-name-in : ByNameAllowed s c → Tested s c (Known (DumpSymbol (symbolRequestOf (c .packet))))
-  unfolding zeroRules anyWith anyIdle
-  by-name-in a =
+  pub by-name-laid : (v a : ℕ) → SymbolNamed c 68 v → two (c .packet) 66 ≡ 0 → Reached v (four (c .packet) 60) a → a < 4294967296 → a % 4 ≡ 0
+      → 1 ≤ two (c .packet) 64 → Laid c (Known (DumpSymbol (symbolRequestOf (c .packet))))
+  unfolding zeroRules
+  by-name-laid v a symbol zeros reached below multiple some =
       let p = c .packet in
-      let x = symbol-in (a .symbol) in
-      let n = name-in (a .symbol .allowed) in
-      let e = address-named (a .symbol) (a .reached) in
-      let q = range-named (a .symbol) (a .reached) in
-      let r = one-in dumpRight (s .regions) (s .count) (rangeFrom p (a .a)) (a .region .0) (a .region .1) in
-      let fits : addressFits valueNamed (four p 60) ≡ true = rw (x .2) (reached-fits (a .reached) (a .below)) in
-      let whole : aligned (rangeFrom p addressNamed) ≡ true = rw e (eq-eqb _ _ (a .aligned)) in
+      let x = symbol-in symbol in
+      let n = name-in (symbol .allowed) in
+      let e = address-named symbol reached in
+      let fits : addressFits valueNamed (four p 60) ≡ true = rw (x .2) (reached-fits reached below) in
+      let whole : aligned (rangeFrom p addressNamed) ≡ true = rw e (eq-eqb _ _ multiple) in
       record {
         known = refl;
-        bytes = ap not (eq-eqb _ _ (a .symbol .bytes));
+        bytes = ap not (eq-eqb _ _ (symbol .bytes));
         table = ap not (x .0);
-        fields = ap not (and-both (n .0) (and-both (n .1) (eq-eqb _ _ (at-two p 66 ∙ a .zeros))));
+        fields = ap not (and-both (n .0) (and-both (n .1) (eq-eqb _ _ (at-two p 66 ∙ zeros))));
         named = ap not (x .1);
-        range = rw (at-four p 60, at-two p 64) (ap not (and-both (and-both fits whole) (le-leb _ _ (a .some))));
-        inside = rw q (ap not (one-any dumpRight (s .regions) (s .count) (rangeFrom p (a .a)) r));
-        right = rw q (ap not r);
+        range = rw (at-four p 60, at-two p 64) (ap not (and-both (and-both fits whole) (le-leb _ _ some)));
+      }
+
+  pub by-name-in : ByNameAllowed s c → Tested s c (Known (DumpSymbol (symbolRequestOf (c .packet))))
+  unfolding anyWith anyIdle
+  by-name-in a =
+      let named = rangeBy (c .symbols) (nameIn (c .packet)) (symbolRequestOf (c .packet)) in
+      let q = range-named (a .symbol) (a .reached) in
+      let size : named .words ≡ two (c .packet) 64 = ap (λ (x : Range). x .words) q in
+      let r : inOneRegion dumpRight (s .regions) (s .count) named ≡ true =
+      rw q (one-in dumpRight (s .regions) (s .count) (rangeFrom (c .packet) (a .a)) (a .region .0) (a .region .1)) in
+      let w = held dumpRight (s .regions) (s .count) named (omega (arith, a .some)) r in
+      record {
+        laid = by-name-laid (a .v) (a .a) (a .symbol) (a .zeros) (a .reached) (a .below) (a .aligned) (a .some);
+        inside = w .0;
+        whole = w .1;
+        right = ap not r;
         new = none-of (numberAt s c) 4 (a .number);
         place = ap not (any-of (idleAt s) 4 (a .place .1) (ap isIdle (a .place .2)));
         busy = refl;

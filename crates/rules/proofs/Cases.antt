@@ -7,13 +7,14 @@ use mathlib.Core.List.{List, [], _∷_}
 use Prim.Native.Nat.{ℕ, _%_, _≤_, _<_}
 use native.Mathlib.Omega.{arith}
 use lib.Dec.{leb, ltb, eqb}
-use borrow.Author.Tests.{ltb-false, le-ltb, leb-true, le-leb, eqb-true, eqb-false, eq-eqb, ne-eqb, not-false}
+use borrow.Author.Tests.{ltb-false, le-ltb, leb-true, le-leb, eqb-true, eqb-false, eq-eqb, ne-eqb, not-true, not-false}
 use Rattle.lists.proofs.Tests.{either, contra, and-left, and-right, and-both, or-left}
 use Rattle.lists.proofs.Below.{any-of, any-at, none-of, none-at}
 use Rattle.wire.specs.ByByte.{byte, two, four}
 use Rattle.wire.proofs.ByByte.{at-two, at-four}
 use Rattle.symbols.specs.Table.{hasName, valueOf, IsTable, Named}
-use Rattle.rules.specs.Regions.{anyRight, loadRight, dumpRight}
+use Rattle.rules.specs.Regions.{anyRight, loadRight, dumpRight, inOneRegion, firstOf, startsInside, runsOut}
+use Rattle.rules.specs.GoodWhen.{LiesIn, StartsIn}
 use Rattle.rules.specs.Packets.{functionCodeOf, wellFormed, apidOf, decode, nameIn, fieldRules, zeroRules, commandTransaction}
 use Rattle.rules.specs.Pools.{Block, Tiles, blocksOf, isDamaged}
 use Rattle.rules.specs.Results.{Row, lentRows}
@@ -25,11 +26,13 @@ use Rattle.rules.specs.declared.Command.{Command}
 use Rattle.rules.specs.declared.Command.the-variants.{Dump, Cancel, Load, PoolStatistics, SymbolValue, DumpSymbol}
 use Rattle.rules.specs.declared.Decoded.the-variants.{Known}
 use Rattle.rules.specs.declared.Range.{Range}
+use Rattle.rules.specs.declared.Region.{Region}
 use Rattle.rules.specs.declared.Task.the-variants.{DumpRange}
 use Rattle.rules.specs.declared.State.{State}
+use Rattle.rules.proofs.Table.{one-out, one-in, starts-out, starts-in, starts-whole}
 use Rattle.rules.proofs.Pools.{blocks-tiles, tiles-blocks}
 use Rattle.rules.proofs.Round.{any-busy-out, any-busy-in}
-use Rattle.rules.proofs.Passed.{undamaged}
+use Rattle.rules.proofs.Passed.{whole-passed, undamaged}
 use Rattle.rules.proofs.Allowed.{formed-out, formed-in, decode-dump, decode-cancel, decode-load, decode-pool, decode-value, decode-by-name, idle-out, idleAt, numberAt}
 use Rattle.symbols.proofs.Logic.{table-when, resolves-when}
 use Rattle.rules.proofs.Asks.{task-is, range-reached}
@@ -102,6 +105,43 @@ names-none p v n =
     (λ c. either (eqb f 7)
     (λ d. rw (a, b, c, d))
     (λ d. rw (a, b, c, d, g, h)))))
+
+-- a row that applies exactly if P, alone with its number
+row-applies : {P : Type 0} (b : Bool) → (b ≡ true) ↔ P → ((b || false) ≡ true) ↔ P
+row-applies b w = (λ h. w .0 (either b (λ e. e) (λ e. absurd (contra h (rw e)))), λ p. let e = w .1 p in rw e)
+
+-- how a range misses
+module _ (rs : List Region) (n : ℕ) (a : Range) where
+  pub outside-when : (not (startsInside rs n a) ≡ true) ↔ ((i : ℕ) → StartsIn rs n a i → ⊥)
+  outside-when = (
+    λ h i s. contra (one-in anyRight rs n (firstOf a) i (starts-in rs n a i s)) (not-true _ h),
+    λ f.
+        either (startsInside rs n a)
+        (λ e. let r = one-out anyRight rs n (firstOf a) e in absurd (f (r .0) (starts-out rs n a (r .0) (r .1))))
+        (λ e. ap not e),
+  )
+
+  pub runs-out-when : (runsOut rs n a ≡ true) ↔ (((i : ℕ) × StartsIn rs n a i) × ((i : ℕ) → LiesIn (λ (g : Region). true) rs n a i → ⊥))
+  runs-out-when =
+      let starts : Bool = startsInside rs n a in
+      let whole : Bool = inOneRegion anyRight rs n a in (
+        λ h.
+            let r = one-out anyRight rs n (firstOf a) (and-left starts (not whole) h) in
+            ((r .0, starts-out rs n a (r .0) (r .1)), λ i l. contra (one-in anyRight rs n a i l) (not-true _ (and-right starts (not whole) h))),
+        λ h.
+            and-both (one-in anyRight rs n (firstOf a) (h .0 .0) (starts-in rs n a (h .0 .0) (h .0 .1)))
+            (either whole (λ e. let r = one-out anyRight rs n a e in absurd (h .1 (r .0) (r .1))) (λ e. ap not e)),
+      )
+
+  both-pass : 1 ≤ a .words
+      → (((not (startsInside rs n a) || false) ≡ false) × ((runsOut rs n a || false) ≡ false)) ↔ ((i : ℕ) × LiesIn (λ (g : Region). true) rs n a i)
+  both-pass one = (
+    λ h. one-out anyRight rs n a (whole-passed rs n a (or-left _ false (h .0)) (or-left _ false (h .1))),
+    λ h.
+        let w = one-in anyRight rs n a (h .0) (h .1) in
+        let s = starts-whole rs n a one w in
+        (rw s, rw (s, w)),
+  )
 
 -- the places and the blocks
 module _ (s : State) (c : CommandArgs) where
@@ -178,7 +218,9 @@ module _ (s : State) (c : CommandArgs) where
   unfolding commandRows lentRows
   dump-cases r d =
       record {
-        region = rw d (rule-passes _ (region-when anyRight _ _ _));
+        outside = rw d (row-applies _ (outside-when _ _ r));
+        runs-out = rw d (row-applies _ (runs-out-when _ _ r));
+        whole = rw d (both-pass _ _ r);
         right = rw d (rule-passes _ (region-when dumpRight _ _ _));
         transaction = rw d (row-passes _ (free-when s c));
         place = rw d (rule-passes _ (place-when s));
@@ -189,14 +231,16 @@ module _ (s : State) (c : CommandArgs) where
   unfolding commandRows lentRows
   cancel-cases e =
       let d = task-is c _ (decode-cancel (c .packet) e) in
-      record { transaction = rw d (rule-passes _ (busy-when s c)); others = rw d (refl, refl, refl, refl, refl) }
+      record { transaction = rw d (rule-passes _ (busy-when s c)); others = rw d (refl, refl, refl, refl, refl, refl) }
 
   load-cases : functionCodeOf (c .packet) ≡ 4 → LoadCases (commandRows s c) s (c .packet)
   unfolding commandRows lentRows
   load-cases e =
       let d = task-is c _ (decode-load (c .packet) e) in
       record {
-        region = rw d (rule-passes _ (region-when anyRight _ _ _));
+        outside = rw d (row-applies _ (outside-when _ _ _));
+        runs-out = rw d (row-applies _ (runs-out-when _ _ _));
+        whole = rw d (both-pass _ _ (rangeOf (c .packet)));
         right = rw d (rule-passes _ (region-when loadRight _ _ _));
         others = rw d (refl, refl, refl, refl);
       }
@@ -208,7 +252,7 @@ module _ (s : State) (c : CommandArgs) where
       record {
         there = rw d (row-passes _ (eqb-false _ _, ne-eqb _ _));
         blocks = rw d (row-passes _ (blocks-when _));
-        others = rw d (refl, refl, refl, refl);
+        others = rw d (refl, refl, refl, refl, refl);
       }
 
   value-cases : functionCodeOf (c .packet) ≡ 8 → ValueCases (commandRows s c) c
@@ -220,7 +264,7 @@ module _ (s : State) (c : CommandArgs) where
         table = rw d (rule-passes _ (table-when _));
         name = rw d (fails-when _ (all-when _ _ _ (leb-when _ _) (leb-when _ _) (eqb-when _ _)), refl);
         known = λ is. rw d (rule-passes _ (name-when _ _ is));
-        others = rw t (refl, refl, refl, refl, refl, refl);
+        others = rw t (refl, refl, refl, refl, refl, refl, refl);
       }
 
   by-name-cases : functionCodeOf (c .packet) ≡ 9 → ByNameCases (commandRows s c) s c

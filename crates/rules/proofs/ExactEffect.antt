@@ -5,6 +5,7 @@ use Rattle.symbols.proofs.Logic.{table-when, resolves-when}
 use Rattle.rules.proofs.Pools.{blocks-are, block-bits}
 use Rattle.rules.proofs.GoodWhen.{region-when, start-when, good-when}
 use Rattle.rules.proofs.AcceptedWhen.{accepted-when}
+use Rattle.rules.proofs.Missed.{missed-when}
 use Rattle.rules.proofs.Effects.{effects}
 use Rattle.rules.proofs.Slot.{slot}
 use Rattle.rules.proofs.StaysGood.{command-good, slot-good, start-good}
@@ -13,6 +14,7 @@ pub demand-2 : Demand2
 demand-2 =
     record {
       accepted-when = accepted-when;
+      missed-when = missed-when;
       effects = effects;
       slot = slot;
       blocks-are = blocks-are;

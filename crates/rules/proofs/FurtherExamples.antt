@@ -18,4 +18,4 @@ use Rattle.rules.specs.FurtherExamples.{FurtherExamples}
 pub further-examples : FurtherExamples
 unfolding splice wordBytes wordsAt xorAll tableRules inOneRegion wordsBelow regionOf imageIndex wordsOf startRules entriesUsed startUp pieceWords dumpRules placesRules countRules goodState lowest lentRows wellFormed decode nameIn fieldRules zeroRules sealed commandBytes blocksFrom replyBytes task anyWith anyIdle commandRows firstIdle firstWith commandCall anyBusy slotRows nextPlace nextWords packetBytes afterPacket slotCall accepts writes pieces headerRules writerRows writeCommand readerRows readCommand cutRules packetRows readPacket
 further-examples =
-    record { rights = refl; cancels = refl; figures = refl; usable = refl; damage = refl; turns = refl; read = refl; read-words = refl; unread = refl; bounds = refl; left = refl; fields = refl; part = refl }
+    record { rights = refl; runs-out = refl; outside = refl; longest = refl; touching = refl; runs-out-order = refl; runs-out-counted = refl; cancels = refl; figures = refl; usable = refl; damage = refl; turns = refl; read = refl; read-words = refl; unread = refl; bounds = refl; left = refl; fields = refl; part = refl }

@@ -19,6 +19,7 @@ pub mod GroundCases
 pub mod AnswerNumbers
 pub mod Refusals
 pub mod AcceptedWhen
+pub mod Missed
 pub mod Effects
 pub mod Located
 pub mod Slot

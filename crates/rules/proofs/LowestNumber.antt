@@ -1,4 +1,4 @@
--- The result numbers: what each says of the state, the first row that applies, and that where the rows ascend its number is the lowest that applies.
+-- The result numbers: the first row that applies, and that where the rows ascend in some order its number is the lowest in it that applies.
 -- Assumes nothing.
 use mathlib.Core.Path.{_≡_, refl, sym, ap, subst⁻¹, _∙_}
 use mathlib.Core.Bool.{Bool, true, false, _&&_, _||_, cond}
@@ -9,78 +9,44 @@ use lib.Dec.{ltb, eqb}
 use lib.ListN.{getD}
 use borrow.Author.Tests.{ltb-true, eq-eqb, ne-eqb}
 use Rattle.lists.proofs.Tests.{either, contra, and-left, and-right, by-order}
-use Rattle.rules.specs.Results.{number, counted, verdictNumber, Row, lowest}
-use Rattle.rules.specs.Demand1.{numbersOf, Lowest, FirstAt, First, keepsState, countsRefused}
+use Rattle.rules.specs.Results.{number, verdictNumber, Row, lowest}
+use Rattle.rules.specs.Demand1.{numbersOf, LowestBy, FirstAt, First}
 use Rattle.rules.specs.Cases.{applies, appliesAt}
 use Rattle.rules.specs.declared.Refusal.{Refusal}
-use Rattle.rules.specs.declared.Refusal.the-variants.{BadState, ImageLength, BufferLength, Malformed, OtherApid, UnknownCode, PacketLength, OtherUnit, BadField, OutsideRegions, NoRight, TransactionBusy, PlacesBusy, NotBusy, PoolDamaged, NothingToSend, BadTable, UnknownSymbol}
+use Rattle.rules.specs.declared.Refusal.the-variants.{BadState, ImageLength, BufferLength, Malformed, OtherApid, UnknownCode, PacketLength, OtherUnit, BadField, OutsideRegions, NoRight, TransactionBusy, PlacesBusy, NotBusy, PoolDamaged, NothingToSend, BadTable, UnknownSymbol, RunsOut}
 use Rattle.rules.specs.declared.Verdict.{Verdict}
 use Rattle.rules.specs.declared.Verdict.the-variants.{Accepted, Rejected}
 
 -- EACH REFUSAL
 
--- its number is not 0, says whether it is counted, and keeps the state only where it is not
-number-tests : (r : Refusal) → (ltb 0 (number r) ≡ true) × (countsRefused (number r) ≡ counted r) × ((keepsState (number r) && counted r) ≡ false)
-number-tests BadState = (refl, refl, refl)
-number-tests ImageLength = (refl, refl, refl)
-number-tests BufferLength = (refl, refl, refl)
-number-tests Malformed = (refl, refl, refl)
-number-tests OtherApid = (refl, refl, refl)
-number-tests UnknownCode = (refl, refl, refl)
-number-tests PacketLength = (refl, refl, refl)
-number-tests OtherUnit = (refl, refl, refl)
-number-tests BadField = (refl, refl, refl)
-number-tests OutsideRegions = (refl, refl, refl)
-number-tests NoRight = (refl, refl, refl)
-number-tests TransactionBusy = (refl, refl, refl)
-number-tests PlacesBusy = (refl, refl, refl)
-number-tests NotBusy = (refl, refl, refl)
-number-tests PoolDamaged = (refl, refl, refl)
-number-tests NothingToSend = (refl, refl, refl)
-number-tests BadTable = (refl, refl, refl)
-number-tests UnknownSymbol = (refl, refl, refl)
+some : (r : Refusal) → ltb 0 (number r) ≡ true
+some BadState = refl
+some ImageLength = refl
+some BufferLength = refl
+some Malformed = refl
+some OtherApid = refl
+some UnknownCode = refl
+some PacketLength = refl
+some OtherUnit = refl
+some BadField = refl
+some OutsideRegions = refl
+some NoRight = refl
+some TransactionBusy = refl
+some PlacesBusy = refl
+some NotBusy = refl
+some PoolDamaged = refl
+some NothingToSend = refl
+some BadTable = refl
+some UnknownSymbol = refl
+some RunsOut = refl
 
+-- its number is not 0
 pub number-some : (r : Refusal) → 0 < number r
-number-some r = ltb-true 0 (number r) (number-tests r .0)
-
-pub number-counts : (r : Refusal) → countsRefused (number r) ≡ true → counted r ≡ true
-number-counts r h = sym (number-tests r .1) ∙ h
-
-pub number-keeps : (r : Refusal) → keepsState (number r) ≡ true → counted r ≡ false
-number-keeps r h = rw h at (number-tests r .2)
-
--- ROWS WHOSE NUMBERS ASCEND
-
--- numbers that ascend strictly, all above m
-abbrev pub ascends : ℕ → List ℕ → Bool
-ascends m [] = true
-ascends m (x ∷ xs) = ltb m x && ascends x xs
-
--- a number that is not above m applies in none of them
-none-below : (m : ℕ) (rows : List Row) → ascends m (numbersOf rows) ≡ true → (i : ℕ) → i ≤ m → applies i rows ≡ false
-none-below m [] h i l = refl
-none-below m (r ∷ rs) h i l =
-    let n : ℕ = number (r .refusal) in
-    let a : m < n = ltb-true m n (and-left (ltb m n) (ascends n (numbersOf rs)) h) in
-    rw (ne-eqb n i (λ e. omega arith)) (none-below n rs (and-right (ltb m n) (ascends n (numbersOf rs)) h) i (omega arith))
+number-some r = ltb-true 0 (number r) (some r)
 
 -- a row that does not apply adds nothing
 applies-after : (r : Row) (rs : List Row) → r .applies ≡ false → (i : ℕ) → applies i (r ∷ rs) ≡ applies i rs
 applies-after r rs a i = either (eqb (number (r .refusal)) i) (λ e. rw (e, a)) (λ e. rw e)
-
--- what a verdict that is the lowest number says of the rows
-abbrev Says : List Row → Verdict → Type 0
-Says rows Accepted = (i : ℕ) → applies i rows ≡ false
-Says rows (Rejected r) = (applies (number r) rows ≡ true) × ((i : ℕ) → i < number r → applies i rows ≡ false)
-
-says-after : (r : Row) (rs : List Row) → r .applies ≡ false → (v : Verdict) → Says rs v → Says (r ∷ rs) v
-says-after r rs a Accepted f = λ i. applies-after r rs a i ∙ f i
-says-after r rs a (Rejected x) f = (applies-after r rs a (number x) ∙ f .0, λ i l. applies-after r rs a i ∙ f .1 i l)
-
-says-here : (r : Row) (rs : List Row) → r .applies ≡ true → ascends (number (r .refusal)) (numbersOf rs) ≡ true → Says (r ∷ rs) (Rejected (r .refusal))
-says-here r rs a h =
-    let n : ℕ = number (r .refusal) in
-    (rw (eq-eqb n n refl, a), λ i l. rw (ne-eqb n i (λ e. omega arith)) (none-below n rs h i (omega arith)))
 
 -- a row that applies gives its refusal, and one that does not is passed over
 lowest-here : (r : Row) (rs : List Row) → r .applies ≡ true → lowest (r ∷ rs) ≡ Rejected (r .refusal)
@@ -91,35 +57,69 @@ lowest-after : (r : Row) (rs : List Row) → r .applies ≡ false → lowest (r 
 unfolding lowest
 lowest-after r rs a = rw a
 
-lowest-says : (m : ℕ) (rows : List Row) → ascends m (numbersOf rows) ≡ true → Says rows (lowest rows)
-unfolding lowest
-lowest-says m [] h = λ i. refl
-lowest-says m (r ∷ rs) h =
-    let n : ℕ = number (r .refusal) in
-    let k : ascends n (numbersOf rs) ≡ true = and-right (ltb m n) (ascends n (numbersOf rs)) h in
-    either (r .applies)
-    (λ a. subst⁻¹ (Says (r ∷ rs)) (lowest-here r rs a) (says-here r rs a k))
-    (λ a. subst⁻¹ (Says (r ∷ rs)) (lowest-after r rs a) (says-after r rs a (lowest rs) (lowest-says n rs k)))
+-- ROWS WHOSE NUMBERS ASCEND, in an order in which no two numbers are alike
 
-lowest-of : (rows : List Row) (v : Verdict) → Says rows v → Lowest rows (verdictNumber v)
-lowest-of rows Accepted f =
-    record { refused = λ j l. (λ e. absurd (omega arith), λ h. absurd (contra (h .0) (f j))); done = (λ e. f, λ g. refl) }
-lowest-of rows (Rejected r) f =
-    record {
-      refused = λ j l. (
-        λ e. rw e at f,
-        λ h.
-            by-order (number r) j
-            (λ k. absurd (contra (f .0) (h .1 (number r) k)))
-            (λ k. absurd (contra (h .0) (f .1 j k)))
-            (λ e. e),
-      );
-      done = (λ e. let z : 0 < number r = number-some r in absurd (omega arith), λ g. absurd (contra (f .0) (g (number r))));
-    }
+module _ (order : ℕ → ℕ) (apart : (i j : ℕ) → order i ≡ order j → i ≡ j) where
+  -- numbers that ascend strictly, all above m
+  abbrev pub ascends : ℕ → List ℕ → Bool
+  ascends m [] = true
+  ascends m (x ∷ xs) = ltb m (order x) && ascends (order x) xs
 
--- the first row that applies gives the lowest number that does
-pub lowest-number : (rows : List Row) → ascends 0 (numbersOf rows) ≡ true → (v : Verdict) → lowest rows ≡ v → Lowest rows (verdictNumber v)
-lowest-number rows up v e = lowest-of rows v (rw e at (lowest-says 0 rows up))
+  -- a number that is not above m applies in none of them
+  none-below : (m : ℕ) (rows : List Row) → ascends m (numbersOf rows) ≡ true → (i : ℕ) → order i ≤ m → applies i rows ≡ false
+  none-below m [] h i l = refl
+  none-below m (r ∷ rs) h i l =
+      let n : ℕ = number (r .refusal) in
+      let a : m < order n = ltb-true m (order n) (and-left (ltb m (order n)) (ascends (order n) (numbersOf rs)) h) in
+      rw (ne-eqb n i (λ e. let o : order n ≡ order i = ap order e in omega arith))
+      (none-below (order n) rs (and-right (ltb m (order n)) (ascends (order n) (numbersOf rs)) h) i (omega arith))
+
+  -- what a verdict that is the lowest number says of the rows
+  abbrev Says : List Row → Verdict → Type 0
+  Says rows Accepted = (i : ℕ) → applies i rows ≡ false
+  Says rows (Rejected r) = (applies (number r) rows ≡ true) × ((i : ℕ) → order i < order (number r) → applies i rows ≡ false)
+
+  says-after : (r : Row) (rs : List Row) → r .applies ≡ false → (v : Verdict) → Says rs v → Says (r ∷ rs) v
+  says-after r rs a Accepted f = λ i. applies-after r rs a i ∙ f i
+  says-after r rs a (Rejected x) f = (applies-after r rs a (number x) ∙ f .0, λ i l. applies-after r rs a i ∙ f .1 i l)
+
+  says-here : (r : Row) (rs : List Row) → r .applies ≡ true → ascends (order (number (r .refusal))) (numbersOf rs) ≡ true
+      → Says (r ∷ rs) (Rejected (r .refusal))
+  says-here r rs a h =
+      let n : ℕ = number (r .refusal) in (
+        rw (eq-eqb n n refl, a),
+        λ i l. rw (ne-eqb n i (λ e. let o : order n ≡ order i = ap order e in omega arith)) (none-below (order n) rs h i (omega arith)),
+      )
+
+  lowest-says : (m : ℕ) (rows : List Row) → ascends m (numbersOf rows) ≡ true → Says rows (lowest rows)
+  unfolding lowest
+  lowest-says m [] h = λ i. refl
+  lowest-says m (r ∷ rs) h =
+      let n : ℕ = order (number (r .refusal)) in
+      let k : ascends n (numbersOf rs) ≡ true = and-right (ltb m n) (ascends n (numbersOf rs)) h in
+      either (r .applies)
+      (λ a. subst⁻¹ (Says (r ∷ rs)) (lowest-here r rs a) (says-here r rs a k))
+      (λ a. subst⁻¹ (Says (r ∷ rs)) (lowest-after r rs a) (says-after r rs a (lowest rs) (lowest-says n rs k)))
+
+  lowest-of : (rows : List Row) (v : Verdict) → Says rows v → LowestBy order rows (verdictNumber v)
+  lowest-of rows Accepted f =
+      record { refused = λ j l. (λ e. absurd (omega arith), λ h. absurd (contra (h .0) (f j))); done = (λ e. f, λ g. refl) }
+  lowest-of rows (Rejected r) f =
+      record {
+        refused = λ j l. (
+          λ e. rw e at f,
+          λ h.
+              by-order (order (number r)) (order j)
+              (λ k. absurd (contra (f .0) (h .1 (number r) k)))
+              (λ k. absurd (contra (h .0) (f .1 j k)))
+              (λ e. apart (number r) j e),
+        );
+        done = (λ e. let z : 0 < number r = number-some r in absurd (omega arith), λ g. absurd (contra (f .0) (g (number r))));
+      }
+
+  -- the first row that applies gives the lowest number that does
+  pub lowest-number : (rows : List Row) → ascends 0 (numbersOf rows) ≡ true → (v : Verdict) → lowest rows ≡ v → LowestBy order rows (verdictNumber v)
+  lowest-number rows up v e = lowest-of rows v (rw e at (lowest-says 0 rows up))
 
 -- A ROW THAT DOES NOT APPLY can be left out
 
@@ -141,8 +141,8 @@ without-lowest zero (r ∷ rs) h = lowest-after r rs h
 without-lowest (suc n) (r ∷ rs) h = ap (cond (r .applies) (Rejected (r .refusal))) (without-lowest n rs h)
 
 -- the first row that applies has the lowest number if it has without that row
-pub lowest-without : (n : ℕ) (rows : List Row) → appliesAt n rows ≡ false
-    → Lowest (without n rows) (verdictNumber (lowest (without n rows))) → Lowest rows (verdictNumber (lowest rows))
+pub lowest-without : {order : ℕ → ℕ} (n : ℕ) (rows : List Row) → appliesAt n rows ≡ false
+    → LowestBy order (without n rows) (verdictNumber (lowest (without n rows))) → LowestBy order rows (verdictNumber (lowest rows))
 lowest-without n rows h l =
     rw (without-lowest n rows h)
     (record {

@@ -3,22 +3,24 @@
 use mathlib.Core.Path.{_≡_, refl, ap}
 use mathlib.Core.Bool.{true, false, not}
 use mathlib.Core.List.{List, [], _∷_}
-use Prim.Native.Nat.{ℕ, _≤_}
+use Prim.Native.Nat.{ℕ, zero, suc, _≤_}
 use native.Mathlib.Omega.{arith}
-use lib.ListN.{length}
+use lib.ListN.{length, take, drop}
 use borrow.Author.Tests.{ltb-false, le-ltb, eqb-true, eq-eqb, not-false}
-use Rattle.lists.proofs.Tests.{either, contra}
-use Rattle.rules.specs.Regions.{imageLength}
+use Rattle.lists.proofs.Tests.{either, contra, and-both}
+use Rattle.rules.specs.Regions.{anyRight, inOneRegion, startsInside, runsOut, imageLength}
 use Rattle.rules.specs.States.{goodState}
 use Rattle.rules.specs.Packets.{wellFormed, decode, nameIn, apidOf, commandUnit, commandTransaction}
 use Rattle.rules.specs.Pools.{Block, Walk, damaged, whole, blocksOf, isDamaged}
-use Rattle.rules.specs.Results.{answerNumber, Row, lowest, lentRows}
-use Rattle.rules.specs.Commands.{CommandArgs, taskOf, task, isUnknown, wrongLength, noTable, wrongField, unknownName, wrongRange, outside, lacksRight, numberTaken, noPlace, noSuchDump, poolDamaged, poolWords, commandRows, carryOut, conclude, commandCall}
+use Rattle.rules.specs.Results.{answerNumber, verdictNumber, Row, lowest, lentRows}
+use Rattle.rules.specs.Commands.{CommandArgs, taskOf, task, isUnknown, wrongLength, noTable, wrongField, unknownName, wrongRange, outside, pastEnd, lacksRight, numberTaken, noPlace, noSuchDump, poolDamaged, poolWords, commandRows, carryOut, conclude, commandCall}
 use Rattle.rules.specs.Demand2.{IsAccepted}
 use Rattle.rules.specs.declared.State.{State}
 use Rattle.rules.specs.declared.Command.the-variants.{Dump, Cancel, Load, PoolStatistics, SymbolValue, DumpSymbol}
 use Rattle.rules.specs.declared.Decoded.{Decoded}
 use Rattle.rules.specs.declared.Decoded.the-variants.{Unknown, Known}
+use Rattle.rules.specs.declared.Range.{Range}
+use Rattle.rules.specs.declared.Region.{Region}
 use Rattle.rules.specs.declared.Verdict.{Verdict}
 use Rattle.rules.specs.declared.Verdict.the-variants.{Accepted, Rejected}
 use Rattle.rules.proofs.LowestNumber.{number-some}
@@ -48,17 +50,34 @@ unfolding lowest
 none-lowest [] h = refl
 none-lowest (r ∷ rs) h = rw (h .0) (none-lowest rs (h .1))
 
+-- none of the first k, and none of the rest
+none-join : (k : ℕ) (rows : List Row) → NoneApplies (take k rows) → NoneApplies (drop k rows) → NoneApplies rows
+none-join zero rows f h = h
+none-join (suc k) [] f h = tt
+none-join (suc k) (r ∷ rs) f h = (f .0, none-join k rs (f .1) h)
+
+pub lowest-past : (k : ℕ) (rows : List Row) → NoneApplies (take k rows) → lowest rows ≡ lowest (drop k rows)
+unfolding lowest
+lowest-past zero rows f = refl
+lowest-past (suc k) [] f = refl
+lowest-past (suc k) (r ∷ rs) f = rw (f .0) (lowest-past k rs (f .1))
+
 -- THE TESTS THAT A COMMAND PASSED
 
--- those that look at the command
-pub record Tested (s : State) (c : CommandArgs) (d : Decoded) : Type 0 where
+-- those that look at its packet and its symbol
+pub record Laid (c : CommandArgs) (d : Decoded) : Type 0 where
   pub known : isUnknown d ≡ false
   pub bytes : wrongLength (c .packet) d ≡ false
   pub table : noTable (c .symbols) d ≡ false
   pub fields : wrongField (c .packet) d ≡ false
   pub named : unknownName (c .symbols) (nameIn (c .packet)) d ≡ false
   pub range : wrongRange (c .symbols) (nameIn (c .packet)) d ≡ false
+
+-- and those that look at its task
+pub record Tested (s : State) (c : CommandArgs) (d : Decoded) : Type 0 where
+  pub laid : Laid c d
   pub inside : outside s (taskOf (c .symbols) (nameIn (c .packet)) d) ≡ false
+  pub whole : pastEnd s (taskOf (c .symbols) (nameIn (c .packet)) d) ≡ false
   pub right : lacksRight s (taskOf (c .symbols) (nameIn (c .packet)) d) ≡ false
   pub new : numberTaken s (commandTransaction (c .packet)) (taskOf (c .symbols) (nameIn (c .packet)) d) ≡ false
   pub place : noPlace s (taskOf (c .symbols) (nameIn (c .packet)) d) ≡ false
@@ -77,7 +96,7 @@ pub record Passed (s : State) (c : CommandArgs) : Type 0 where
 module _ (s : State) (c : CommandArgs) where
   rows-out : NoneApplies (commandRows s c) → Passed s c
   unfolding commandRows lentRows task
-  rows-out (good, (image, (reply, (shape, (apid, (known, (bytes, (unit, (table, (fields, (named, (range, (inside, (right, (new, (place, (busy, (blocks, end)))))))))))))))))) =
+  rows-out (good, (image, (reply, (shape, (apid, (known, (bytes, (unit, (table, (fields, (named, (range, (inside, (stays, (right, (new, (place, (busy, (blocks, end))))))))))))))))))) =
       record {
         good = not-false _ good;
         image = eqb-true _ _ (not-false _ image);
@@ -87,13 +106,9 @@ module _ (s : State) (c : CommandArgs) where
         unit = eqb-true _ _ (not-false _ unit);
         tests =
             record {
-              known = known;
-              bytes = bytes;
-              table = table;
-              fields = fields;
-              named = named;
-              range = range;
+              laid = record { known = known; bytes = bytes; table = table; fields = fields; named = named; range = range };
               inside = inside;
+              whole = stays;
               right = right;
               new = new;
               place = place;
@@ -102,30 +117,38 @@ module _ (s : State) (c : CommandArgs) where
             };
       }
 
+  -- the rows up to the second 9
+  pub opened : goodState s ≡ true → length (c .image) ≡ imageLength (s .regions) (s .count) → 32 ≤ length (c .reply) → wellFormed (c .packet) ≡ true
+      → apidOf (c .packet) ≡ 1604 → commandUnit (c .packet) ≡ s .unit → Laid c (decode (c .packet)) → NoneApplies (take 12 (commandRows s c))
+  unfolding commandRows lentRows
+  opened good image reply shape apid unit laid =
+      ap not good
+      & ap not (eq-eqb _ _ image)
+      & le-ltb _ _ reply
+      & ap not shape
+      & ap not (eq-eqb _ _ apid)
+      & laid .known
+      & laid .bytes
+      & ap not (eq-eqb _ _ unit)
+      & laid .table
+      & laid .fields
+      & laid .named
+      & laid .range
+      & tt
+
   rows-in : Passed s c → NoneApplies (commandRows s c)
   unfolding commandRows lentRows task
   rows-in p =
-      ap not (p .good)
-      & ap not (eq-eqb _ _ (p .image))
-      & le-ltb _ _ (p .reply)
-      & ap not (p .shape)
-      & ap not (eq-eqb _ _ (p .apid))
-      & p .tests .known
-      & p .tests .bytes
-      & ap not (eq-eqb _ _ (p .unit))
-      & p .tests .table
-      & p .tests .fields
-      & p .tests .named
-      & p .tests .range
-      & p .tests .inside
-      & p .tests .right
-      & p .tests .new
-      & p .tests .place
-      & p .tests .busy
-      & p .tests .blocks
-      & tt
+      none-join 12 (commandRows s c)
+      (opened (p .good) (p .image) (p .reply) (p .shape) (p .apid) (p .unit) (p .tests .laid))
+      (p .tests .inside & p .tests .whole & p .tests .right & p .tests .new & p .tests .place & p .tests .busy & p .tests .blocks & tt)
 
 -- THE ANSWER
+
+-- a range that passed 10 and 19 lies whole in a region
+pub whole-passed : (rs : List Region) (n : ℕ) (a : Range) → not (startsInside rs n a) ≡ false → runsOut rs n a ≡ false → inOneRegion anyRight rs n a ≡ true
+whole-passed rs n a starts past =
+    either (inOneRegion anyRight rs n a) (λ e. e) (λ e. absurd (contra {b = runsOut rs n a} (rw (not-false (startsInside rs n a) starts, e)) past))
 
 -- blocks that are not damaged
 pub undamaged : (w : Walk) → isDamaged w ≡ false → (bs : List Block) × (w ≡ whole bs)
@@ -140,7 +163,7 @@ module _ (s : State) (c : CommandArgs) where
 
   -- a command whose tests passed is answered 0 when it is carried out
   carried-out : (d : Decoded) → Tested s c d → answerNumber (carryOut s c (taskOf (c .symbols) (nameIn (c .packet)) d) .answer) ≡ 0
-  carried-out Unknown t = absurd (contra refl (t .known))
+  carried-out Unknown t = absurd (contra refl (t .laid .known))
   carried-out (Known (Dump q)) t = refl
   carried-out (Known Cancel) t = refl
   carried-out (Known (Load q)) t = refl
@@ -156,6 +179,16 @@ module _ (s : State) (c : CommandArgs) where
       → commandCall s c ≡ carryOut s c (taskOf (c .symbols) (nameIn (c .packet)) (decode (c .packet)))
   unfolding commandCall task
   lowest-call h = ap (conclude s c) h
+
+  concluded-number : (v : Verdict) → lowest (commandRows s c) ≡ v → answerNumber (conclude s c v .answer) ≡ verdictNumber v
+  unfolding task
+  concluded-number Accepted e = carried-out (decode (c .packet)) (rows-out s c (lowest-none _ e) .tests)
+  concluded-number (Rejected r) e = refl
+
+  -- the number of the first row that applies, and 0 if none does
+  pub answer-number : answerNumber (commandCall s c .answer) ≡ verdictNumber (lowest (commandRows s c))
+  unfolding commandCall
+  answer-number = concluded-number (lowest (commandRows s c)) refl
 
   -- a command of which no row applies passed its tests
   pub tests-passed : lowest (commandRows s c) ≡ Accepted → Tested s c (decode (c .packet))

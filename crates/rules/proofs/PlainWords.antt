@@ -4,7 +4,7 @@ use mathlib.Core.Path.{_≡_, refl, sym, ap, _∙_}
 use mathlib.Core.Logic.{_≢_, _↔_}
 use mathlib.Core.Bool.{Bool, true, false}
 use mathlib.Core.List.{List}
-use Prim.Native.Nat.{ℕ, zero, suc, _+_, _-_, _/_, _%_, _≤_, _<_}
+use Prim.Native.Nat.{ℕ, zero, suc, _+_, _*_, _-_, _/_, _%_, _≤_, _<_}
 use native.Mathlib.Omega.{arith}
 use lib.ListN.{getD, take, drop}
 use lib.Seq.{getD-take, getD-drop}
@@ -13,7 +13,7 @@ use Rattle.lists.proofs.Below.{none-of, first-none, sum-more}
 use Rattle.lists.proofs.Tests.{either, contra}
 use Rattle.rules.specs.Regions.{startOf, regionAt, rangeAt, tableRules, anyRight, dumpRight, holds, wordsBelow, imageLength, regionOf, imageIndex, wordsOf}
 use Rattle.rules.specs.States.{poolAt, contextAt, busyWith, goodState}
-use Rattle.rules.specs.GoodWhen.{LiesIn, DumpableIn, Lies, firstWord, GoodPool, Good}
+use Rattle.rules.specs.GoodWhen.{LiesIn, StartsIn, DumpableIn, Lies, firstWord, GoodPool, Good}
 use Rattle.rules.specs.PlainWords.{WordsInImage, ImageFits, LiesDumpable, PlainWords}
 use Rattle.rules.specs.declared.ActiveDump.{ActiveDump}
 use Rattle.rules.specs.declared.Context.{Context}
@@ -61,6 +61,13 @@ lies-both right rs n a i e m = (
   λ h. let f = h .1 .from in let t = h .1 .to in record { in-use = h .1 .in-use; from = omega arith; to = omega arith; allowed = h .2 },
 )
 
+starts-both : (rs : List Region) (n : ℕ) (a : Range) (i : ℕ) → startOf a % 4 ≡ 0 → startOf (rangeAt rs i) % 4 ≡ 0
+    → StartsIn rs n a i ↔ ((k : ℕ) × (i < n) × (k < rangeAt rs i .words) × (startOf a ≡ startOf (rangeAt rs i) + 4 * k))
+starts-both rs n a i e m = (
+  λ h. let f = h .from in let t = h .word in ((startOf a - startOf (rangeAt rs i)) / 4, h .in-use, omega arith, omega arith),
+  λ (k, l, t, f). record { in-use = l; from = omega arith; word = omega arith },
+)
+
 found-there : (rs : List Region) (n : ℕ) (a : Range) (i : ℕ) → tableRules rs n ≡ true → 1 ≤ a .words → LiesIn anyRight rs n a i → regionOf rs n a ≡ i
 found-there rs n a i table one l = holds-unique rs n table a (regionOf rs n a) i one (region-holds rs n a (one-in anyRight rs n a i l)) l
 
@@ -106,6 +113,8 @@ plain-words =
       image-more = more-words;
       region-first = λ rs i. sym (words-sum rs i);
       lies-when = lies-both;
+      first = λ a. refl;
+      starts-when = starts-both;
       region-of = found-there;
       region-none = found-nowhere;
       pool-lies = λ s pool g. pool-there s g pool;

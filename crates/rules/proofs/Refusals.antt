@@ -1,10 +1,11 @@
 -- Demand 1: each call gives each number exactly in its case, and a refusal leaves all as it was, save the refused count where it counts.
 -- Assumes nothing.
-use mathlib.Core.Path.{_≡_, refl, _∙_}
+use mathlib.Core.Path.{_≡_, refl, sym, _∙_}
 use mathlib.Core.Logic.{_≢_}
 use mathlib.Core.Bool.{true, false}
 use mathlib.Core.List.{List, []}
-use Prim.Native.Nat.{ℕ, suc, _≤_}
+use Prim.Native.Nat.{ℕ, suc, _*_, _≤_}
+use lib.Dec.{eqb}
 use native.Mathlib.Omega.{arith}
 use lib.ListN.{length, drop}
 use borrow.Author.Tests.{eqb-true, ltb-false, not-false}
@@ -21,7 +22,7 @@ use Rattle.rules.specs.Results.{number, counted, answerLength, verdictNu
 use Rattle.rules.specs.Commands.{CommandArgs, Outcome, taskOf, task, isUnknown, namesSymbol, wrongRange, poolWords, commandRows, acceptedMore, refusedCommand, replied, told, carryOut, conclude, commandCall}
 use Rattle.rules.specs.Slots.{SlotArgs, isBusy, anyBusy, longestPacket, slotRows, nextPlace, refusedSlot, serve, concludeSlot, slotCall}
 use Rattle.rules.specs.Ground.{writerRows, concludeWrite, writeCommand, readerRows, readingNumber, noWords, fieldsRead, concludeRead, readCommand, packetRows, packetNumber, concludePacket, readPacket}
-use Rattle.rules.specs.Demand1.{keepsState, Lowest, CommandRefusals, SlotRefusals, StartRefusals, GroundRefusals, Demand1}
+use Rattle.rules.specs.Demand1.{LowestBy, Lowest, afterTen, CommandRefusals, SlotRefusals, StartRefusals, GroundRefusals, Demand1}
 use Rattle.rules.specs.declared.Command.{Command}
 use Rattle.rules.specs.declared.Command.the-variants.{Dump, Cancel, Load, PoolStatistics, SymbolValue, DumpSymbol}
 use Rattle.rules.specs.declared.Context.{Context}
@@ -31,7 +32,7 @@ use Rattle.rules.specs.declared.Decoded.the-variants.{Unknown, Known}
 use Rattle.rules.specs.declared.Header.{Header}
 use Rattle.rules.specs.declared.Range.{Range}
 use Rattle.rules.specs.declared.Refusal.{Refusal}
-use Rattle.rules.specs.declared.Refusal.the-variants.{BadState, ImageLength, BufferLength, Malformed, OtherApid, UnknownCode, PacketLength, OtherUnit, BadField, OutsideRegions, NoRight, TransactionBusy, PlacesBusy, NotBusy, PoolDamaged, NothingToSend, BadTable, UnknownSymbol}
+use Rattle.rules.specs.declared.Refusal.the-variants.{BadState, ImageLength, BufferLength, Malformed, OtherApid, UnknownCode, PacketLength, OtherUnit, BadField, OutsideRegions, NoRight, TransactionBusy, PlacesBusy, NotBusy, PoolDamaged, NothingToSend, BadTable, UnknownSymbol, RunsOut}
 use Rattle.rules.specs.declared.Region.{Region}
 use Rattle.rules.specs.declared.State.{State}
 use Rattle.rules.specs.declared.Task.{Task}
@@ -39,15 +40,38 @@ use Rattle.rules.specs.declared.Task.the-variants.{Nothing, DumpRange, C
 use Rattle.rules.specs.declared.Verdict.{Verdict}
 use Rattle.rules.specs.declared.Verdict.the-variants.{Accepted, Rejected}
 use Rattle.rules.proofs.Good.{good-out}
-use Rattle.rules.proofs.LowestNumber.{number-some, number-counts, number-keeps, lowest-number, without, lowest-without, first-number, test-passed}
+use Rattle.rules.proofs.LowestNumber.{number-some, lowest-number, without, lowest-without, first-number, test-passed}
 use Rattle.rules.proofs.Fits.{load-keeps-length, reply-keeps-length, packet-keeps-length, command-keeps-length, command-length}
 use Rattle.rules.proofs.Round.{next-busy}
-use Rattle.rules.proofs.Passed.{Tested, tests-passed}
+use Rattle.rules.proofs.Passed.{Tested, whole-passed, tests-passed}
 use Rattle.rules.proofs.Cases.{names-none, command-cases, slot-cases}
 use Rattle.rules.proofs.AnswerNumbers.{answer-numbers}
 use Rattle.rules.proofs.GroundCases.{length-of, writer-cases, reader-cases, packet-cases}
 
--- every number but these is counted
+-- these numbers are not counted, and every other but 16 is
+these-keep : (r : Refusal)
+    → (number r ≡ 1 → counted r ≡ false) × (number r ≡ 2 → counted r ≡ false) × (number r ≡ 3 → counted r ≡ false)
+    × (number r ≡ 5 → counted r ≡ false) × (number r ≡ 8 → counted r ≡ false)
+these-keep BadState = (λ e. refl, λ e. refl, λ e. refl, λ e. refl, λ e. refl)
+these-keep ImageLength = (λ e. refl, λ e. refl, λ e. refl, λ e. refl, λ e. refl)
+these-keep BufferLength = (λ e. refl, λ e. refl, λ e. refl, λ e. refl, λ e. refl)
+these-keep Malformed = (λ e. absurd (omega arith), λ e. absurd (omega arith), λ e. absurd (omega arith), λ e. absurd (omega arith), λ e. absurd (omega arith))
+these-keep OtherApid = (λ e. refl, λ e. refl, λ e. refl, λ e. refl, λ e. refl)
+these-keep UnknownCode = (λ e. absurd (omega arith), λ e. absurd (omega arith), λ e. absurd (omega arith), λ e. absurd (omega arith), λ e. absurd (omega arith))
+these-keep PacketLength = (λ e. absurd (omega arith), λ e. absurd (omega arith), λ e. absurd (omega arith), λ e. absurd (omega arith), λ e. absurd (omega arith))
+these-keep OtherUnit = (λ e. refl, λ e. refl, λ e. refl, λ e. refl, λ e. refl)
+these-keep BadField = (λ e. absurd (omega arith), λ e. absurd (omega arith), λ e. absurd (omega arith), λ e. absurd (omega arith), λ e. absurd (omega arith))
+these-keep OutsideRegions = (λ e. absurd (omega arith), λ e. absurd (omega arith), λ e. absurd (omega arith), λ e. absurd (omega arith), λ e. absurd (omega arith))
+these-keep NoRight = (λ e. absurd (omega arith), λ e. absurd (omega arith), λ e. absurd (omega arith), λ e. absurd (omega arith), λ e. absurd (omega arith))
+these-keep TransactionBusy = (λ e. absurd (omega arith), λ e. absurd (omega arith), λ e. absurd (omega arith), λ e. absurd (omega arith), λ e. absurd (omega arith))
+these-keep PlacesBusy = (λ e. absurd (omega arith), λ e. absurd (omega arith), λ e. absurd (omega arith), λ e. absurd (omega arith), λ e. absurd (omega arith))
+these-keep NotBusy = (λ e. absurd (omega arith), λ e. absurd (omega arith), λ e. absurd (omega arith), λ e. absurd (omega arith), λ e. absurd (omega arith))
+these-keep PoolDamaged = (λ e. absurd (omega arith), λ e. absurd (omega arith), λ e. absurd (omega arith), λ e. absurd (omega arith), λ e. absurd (omega arith))
+these-keep NothingToSend = (λ e. refl, λ e. refl, λ e. refl, λ e. refl, λ e. refl)
+these-keep BadTable = (λ e. absurd (omega arith), λ e. absurd (omega arith), λ e. absurd (omega arith), λ e. absurd (omega arith), λ e. absurd (omega arith))
+these-keep UnknownSymbol = (λ e. absurd (omega arith), λ e. absurd (omega arith), λ e. absurd (omega arith), λ e. absurd (omega arith), λ e. absurd (omega arith))
+these-keep RunsOut = (λ e. absurd (omega arith), λ e. absurd (omega arith), λ e. absurd (omega arith), λ e. absurd (omega arith), λ e. absurd (omega arith))
+
 other-counts : (r : Refusal) → number r ≢ 1 → number r ≢ 2 → number r ≢ 3 → number r ≢ 5 → number r ≢ 8 → number r ≢ 16 → counted r ≡ true
 other-counts BadState a b c d e f = absurd (a refl)
 other-counts ImageLength a b c d e f = absurd (b refl)
@@ -67,6 +91,7 @@ other-counts PoolDamaged a b c d e f = refl
 other-counts NothingToSend a b c d e f = absurd (f refl)
 other-counts BadTable a b c d e f = refl
 other-counts UnknownSymbol a b c d e f = refl
+other-counts RunsOut a b c d e f = refl
 
 no-number : {A : Type 0} {n k : ℕ} → n ≡ 0 → n ≡ suc k → A
 no-number z e = absurd (omega arith)
@@ -103,7 +128,7 @@ module _ (s : State) (c : CommandArgs) (passed : lowest (commandRows s c) ≡ Ac
       splice-length (c .reply) 0 (valueBytes (s .values) (s .unit) (commandTransaction (c .packet)) v) (omega arith)
 
   carried-out : (d : Decoded) → Tested s c d → CarriedOut s c (carryOut s c (taskOf (c .symbols) (nameIn (c .packet)) d))
-  carried-out Unknown t = absurd (contra refl (t .known))
+  carried-out Unknown t = absurd (contra refl (t .laid .known))
   carried-out (Known (Dump q)) t = record { done = refl; accepted = refl; refused = refl; image = refl; buffer = refl }
   carried-out (Known Cancel) t = record { done = refl; accepted = refl; refused = refl; image = refl; buffer = refl }
   carried-out (Known (Load q)) t =
@@ -111,7 +136,7 @@ module _ (s : State) (c : CommandArgs) (passed : lowest (commandRows s c) ≡ Ac
         done = refl;
         accepted = refl;
         refused = refl;
-        image = load-keeps-length (s .regions) (s .count) q (c .packet) (c .image) (not-false _ (t .inside)) image-length;
+        image = load-keeps-length (s .regions) (s .count) q (c .packet) (c .image) (whole-passed _ _ _ (t .inside) (t .whole)) image-length;
         buffer = refl;
       }
   carried-out (Known (PoolStatistics i)) t = replied-out i (blocksOf (poolWords s i (c .image))) (t .blocks)
@@ -141,6 +166,13 @@ module _ (symbols name : List ℕ) where
   same-task others (Known (SymbolValue i)) n = absurd (contra refl n)
   same-task others (Known (DumpSymbol q)) n = absurd (contra refl n)
 
+-- no two numbers are alike in the order of the command call's
+ten-apart : (i j : ℕ) → afterTen i ≡ afterTen j → i ≡ j
+ten-apart i j e =
+    either (eqb i 19)
+    (λ a. either (eqb j 19) (λ b. eqb-true i 19 a ∙ sym (eqb-true j 19 b)) (λ b. let q : 21 ≡ 2 * j = rw (a, b) at e in absurd (omega arith)))
+    (λ a. either (eqb j 19) (λ b. let q : 2 * i ≡ 21 = rw (a, b) at e in absurd (omega arith)) (λ b. let q : 2 * i ≡ 2 * j = rw (a, b) at e in omega arith))
+
 -- what a task does looks at no symbol table
 abbrev lentOther : CommandArgs → List ℕ → CommandArgs
 lentOther c others = record { packet = c .packet; symbols = others; image = c .image; reply = c .reply }
@@ -160,13 +192,13 @@ module _ (s : State) (c : CommandArgs) (others : List ℕ) where
 
 module _ (s : State) (c : CommandArgs) (none : namesSymbol (decode (c .packet)) ≡ false) where
   -- rows 17 and 18 and the second 9 do not apply, and the others ascend
-  command-lowest : Lowest (commandRows s c) (verdictNumber (lowest (commandRows s c)))
+  command-lowest : LowestBy afterTen (commandRows s c) (verdictNumber (lowest (commandRows s c)))
   unfolding commandRows lentRows
   command-lowest =
       let rows : List Row = commandRows s c in
       lowest-without 11 rows (no-range (c .symbols) (nameIn (c .packet)) (decode (c .packet)) none)
       (lowest-without 10 (without 11 rows) (rw none)
-      (lowest-without 8 (without 10 (without 11 rows)) (rw none) (lowest-number (without 8 (without 10 (without 11 rows))) refl _ refl)))
+      (lowest-without 8 (without 10 (without 11 rows)) (rw none) (lowest-number afterTen ten-apart (without 8 (without 10 (without 11 rows))) refl _ refl)))
 
   other-task : (others : List ℕ) → task (lentOther c others) ≡ task c
   unfolding task
@@ -199,17 +231,12 @@ module _ (s : State) (c : CommandArgs) where
         first = rw (is .done) (first-number (commandRows s c) Accepted e);
         lowest = λ v n. rw (is .done) (rw e at (command-lowest s c (names-none (c .packet) v n)));
         kept = λ n. absurd (n (is .done));
-        same = λ k. absurd (contra (rw (is .done) at k) refl);
-        one-more = λ k. absurd (contra (rw (is .done) at k) refl);
         handed-in = (no-number (is .done), no-number (is .done), no-number (is .done), no-number (is .done), no-number (is .done));
-        any-other = λ z. absurd (z (is .done));
+        one-more = λ z. absurd (z (is .done));
         accepted = λ z. (is .accepted, is .refused);
         no-symbol = λ v n others. other-call s c (names-none (c .packet) v n) others ∙ call;
         lent = (is .image, is .buffer);
       }
-
-  keeps-at : (r : Refusal) (k : ℕ) → keepsState k ≡ true → number r ≡ k → refusedCommand s c r .state ≡ s
-  keeps-at r k h e = rw (number-keeps r (rw e h))
 
   command-refused : (r : Refusal) → lowest (commandRows s c) ≡ Rejected r → commandCall s c ≡ refusedCommand s c r
       → CommandRefusals s c (refusedCommand s c r)
@@ -221,10 +248,9 @@ module _ (s : State) (c : CommandArgs) where
         first = first-number (commandRows s c) (Rejected r) e;
         lowest = λ v n. rw e at (command-lowest s c (names-none (c .packet) v n));
         kept = λ n. (refl, refl, refl);
-        same = λ k. rw (number-keeps r k);
-        one-more = λ k. rw (number-counts r k);
-        handed-in = (keeps-at r 1 refl, keeps-at r 2 refl, keeps-at r 3 refl, keeps-at r 5 refl, keeps-at r 8 refl);
-        any-other = λ z a b c d e f. rw (other-counts r a b c d e f);
+        handed-in = let k = these-keep r in
+            (λ e. rw (k .0 e), λ e. rw (k .1 e), λ e. rw (k .2 e), λ e. rw (k .3 e), λ e. rw (k .4 e));
+        one-more = λ z a b c d e f. rw (other-counts r a b c d e f);
         accepted = λ z. let n = number-some r in absurd (omega arith);
         no-symbol = λ v n others. other-call s c (names-none (c .packet) v n) others ∙ call;
         lent = (refl, refl);
@@ -245,7 +271,7 @@ module _ (s : State) (c : CommandArgs) where
 module _ (s : State) (c : SlotArgs) where
   slot-lowest : (v : Verdict) → lowest (slotRows s c) ≡ v → Lowest (slotRows s c) (verdictNumber v)
   unfolding slotRows lentRows
-  slot-lowest = lowest-number (slotRows s c) refl
+  slot-lowest = lowest-number (λ i. i) (λ i j e. e) (slotRows s c) refl
 
   -- where no row applies the next place is busy
   next-is-busy : lowest (slotRows s c) ≡ Accepted → isBusy (contextAt (s .places) (nextPlace (s .places) (s .last))) ≡ true
@@ -337,7 +363,7 @@ module _ (h : Header) (k : Command) (ws buffer : List ℕ) where
 
   writer-lowest : Lowest (writerRows h k buffer) (answerNumber (writeCommand h k ws buffer .answer))
   unfolding writeCommand
-  writer-lowest = rw (writer-number (lowest (writerRows h k buffer))) (lowest-number (writerRows h k buffer) (unfold writerRows in refl) _ refl)
+  writer-lowest = rw (writer-number (lowest (writerRows h k buffer))) (lowest-number (λ i. i) (λ i j e. e) (writerRows h k buffer) (unfold writerRows in refl) _ refl)
 
   writer-keeps : (v : Verdict) → answerNumber (concludeWrite h k ws buffer v .answer) ≢ 0
       → (concludeWrite h k ws buffer v .buffer ≡ buffer) × (answerLength (concludeWrite h k ws buffer v .answer) ≡ 0)
@@ -367,7 +393,7 @@ module _ (p : List ℕ) where
 
   reader-lowest : Lowest (readerRows p) (readingNumber (readCommand p .reading))
   unfolding readCommand
-  reader-lowest = rw (reader-number (lowest (readerRows p)) refl) (lowest-number (readerRows p) (unfold readerRows in refl) _ refl)
+  reader-lowest = rw (reader-number (lowest (readerRows p)) refl) (lowest-number (λ i. i) (λ i j e. e) (readerRows p) (unfold readerRows in refl) _ refl)
 
   reader-keeps : (v : Verdict) → lowest (readerRows p) ≡ v → readingNumber (concludeRead p v .reading) ≢ 0 → concludeRead p v .words ≡ noWords
   reader-keeps Accepted e n = absurd (n (reader-number Accepted e))
@@ -379,7 +405,7 @@ module _ (p : List ℕ) where
 
   packet-lowest : Lowest (packetRows p) (packetNumber (readPacket p .reading))
   unfolding readPacket
-  packet-lowest = rw (packet-number (lowest (packetRows p))) (lowest-number (packetRows p) (unfold packetRows in refl) _ refl)
+  packet-lowest = rw (packet-number (lowest (packetRows p))) (lowest-number (λ i. i) (λ i j e. e) (packetRows p) (unfold packetRows in refl) _ refl)
 
   packet-keeps : (v : Verdict) → packetNumber (concludePacket p v .reading) ≢ 0 → concludePacket p v .part ≡ []
   packet-keeps Accepted n = absurd (n refl)

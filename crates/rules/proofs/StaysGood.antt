@@ -149,7 +149,7 @@ module _ (s : State) (c : CommandArgs) (g : GoodIs s) where
   carried-good Unknown small h = refused-good s g c UnknownCode
   carried-good (Known (Dump q)) small h =
       let r = requested q in
-      dump-good r (new-dump r small (range-fields true r (not-false _ (h .fields))) (h .right)) (h .new) (h .place)
+      dump-good r (new-dump r small (range-fields true r (not-false _ (h .laid .fields))) (h .right)) (h .new) (h .place)
   carried-good (Known Cancel) small h = cancel-good (h .busy)
   carried-good (Known (Load q)) small h = accepted-good s g (s .places) (g .places)
   carried-good (Known (PoolStatistics i)) small h = replied-good i (blocksOf (poolWords s i (c .image)))
@@ -159,7 +159,7 @@ module _ (s : State) (c : CommandArgs) (g : GoodIs s) where
   carried-good (Known (DumpSymbol q)) small h =
       let r = rangeBy (c .symbols) (nameIn (c .packet)) q in
       let b = addressFits (valueOf (c .symbols) (nameIn (c .packet))) (q .offset) in
-      dump-good r (new-dump r small (range-fields b r (not-false _ (h .range))) (h .right)) (h .new) (h .place)
+      dump-good r (new-dump r small (range-fields b r (not-false _ (h .laid .range))) (h .right)) (h .new) (h .place)
 
 pub command-good : (s : State) (c : CommandArgs) → AreBytes (c .packet) → goodState s ≡ true → goodState (commandCall s c .state) ≡ true
 unfolding commandCall task

@@ -29,6 +29,7 @@ symbol-examples =
       unknown = refl;
       order = refl;
       offsets = refl;
+      runs-out = refl;
       counted = refl;
       tables = refl;
       zero-byte = refl;

@@ -11,8 +11,8 @@ use borrow.Author.Tests.{leb-true, le-leb, eqb-true}
 use Rattle.lists.specs.Below.{allBelow, sumBelow}
 use Rattle.lists.proofs.Tests.{either, contra, and-left, and-right, and-both, by-order}
 use Rattle.lists.proofs.Below.{all-at, any-of, any-at, first-found, sum-part}
-use Rattle.rules.specs.Regions.{startOf, endOf, aligned, within, regionAt, rangeAt, endBefore, regionRules, tableRules, anyRight, holds, inOneRegion, wordsBelow, imageLength, regionOf, indexIn, imageIndex, wordsOf}
-use Rattle.rules.specs.GoodWhen.{LiesIn}
+use Rattle.rules.specs.Regions.{startOf, endOf, aligned, within, regionAt, rangeAt, endBefore, regionRules, tableRules, anyRight, holds, inOneRegion, firstOf, startsInside, wordsBelow, imageLength, regionOf, indexIn, imageIndex, wordsOf}
+use Rattle.rules.specs.GoodWhen.{LiesIn, StartsIn}
 use Rattle.rules.specs.declared.Range.{Range}
 use Rattle.rules.specs.declared.Region.{Region}
 
@@ -49,6 +49,22 @@ module _ (right : Region → Bool) (rs : List Region) (n : ℕ) (a : Range) wher
 -- a range in a region with some right lies in a region
 pub one-any : (right : Region → Bool) (rs : List Region) (n : ℕ) (a : Range) → inOneRegion right rs n a ≡ true → inOneRegion anyRight rs n a ≡ true
 one-any right rs n a h = let r = one-out right rs n a h in one-in anyRight rs n a (r .0) (holds-any right rs n a (r .0) (r .1))
+
+-- THE FIRST WORD OF A RANGE
+
+module _ (rs : List Region) (n : ℕ) (a : Range) where
+  pub starts-out : (i : ℕ) → LiesIn anyRight rs n (firstOf a) i → StartsIn rs n a i
+  starts-out i h = record { in-use = h .in-use; from = h .from; word = h .to }
+
+  pub starts-in : (i : ℕ) → StartsIn rs n a i → LiesIn anyRight rs n (firstOf a) i
+  starts-in i h = record { in-use = h .in-use; from = h .from; to = h .word; allowed = refl }
+
+  -- a range of a word or more starts in the region that holds it whole
+  pub starts-there : 1 ≤ a .words → (i : ℕ) → LiesIn anyRight rs n a i → StartsIn rs n a i
+  starts-there one i h = let t = h .to in record { in-use = h .in-use; from = h .from; word = omega arith }
+
+  pub starts-whole : 1 ≤ a .words → inOneRegion anyRight rs n a ≡ true → startsInside rs n a ≡ true
+  starts-whole one h = let r = one-out anyRight rs n a h in one-in anyRight rs n (firstOf a) (r .0) (starts-in (r .0) (starts-there one (r .0) (r .1)))
 
 -- THE IMAGE
 
@@ -129,6 +145,11 @@ module _ (rs : List Region) (n : ℕ) (rules : tableRules rs n ≡ true) where
       (λ e. e)
 
   -- so it begins in the image where the words of its region say
+  -- no other region than the one it starts in holds a range
+  pub held-there : (a : Range) (i j : ℕ) → 1 ≤ a .words → StartsIn rs n a i → LiesIn anyRight rs n a j → i ≡ j
+  held-there a i j one h l =
+      holds-unique (firstOf a) i j (omega arith) (starts-in rs n a i h) (starts-in rs n a j (starts-there rs n a one j l))
+
   pub image-index : (a : Range) (i : ℕ) → 1 ≤ a .words → LiesIn anyRight rs n a i → imageIndex rs n a .0 ≡ indexIn rs a i
   unfolding imageIndex
   image-index a i one h =

@@ -1,5 +1,5 @@
--- The cases of the table of result numbers in logic (paper 01, "Result numbers" and "Ground reader and writer"; paper 02, A2): for each number
--- that a call can give, when its row does not apply. Demand 1 says that the rows of Commands.antt, Slots.antt and Ground.antt are these.
+-- The cases of the table of result numbers in logic (paper 01, "Result numbers" and "Ground reader and writer"; paper 02, A2 and A5): for each number
+-- that a call can give, when its row does not apply, or when it does. Demand 1 says that the rows of Commands.antt, Slots.antt and Ground.antt are these.
 use mathlib.Core.Path.{_≡_}
 use mathlib.Core.Logic.{_≢_, _↔_}
 use mathlib.Core.Bool.{Bool, true, false, _&&_, _||_}
@@ -12,7 +12,7 @@ use Rattle.wire.specs.ByByte.{byte, two, four}
 use Rattle.wire.specs.Xor.{xorAll}
 use Rattle.rules.specs.Regions.{startOf, imageLength}
 use Rattle.rules.specs.States.{poolAt, contextAt, busyWith, goodState}
-use Rattle.rules.specs.GoodWhen.{LiesIn, DumpableIn}
+use Rattle.rules.specs.GoodWhen.{LiesIn, StartsIn, DumpableIn}
 use Rattle.rules.specs.Packets.{versionOf, typeOf, secondHeaderOf, sequenceFlagsOf, lengthFieldOf, zeroBitOf, functionCodeOf, apidOf, commandUnit, commandTransaction, requestOf, requested}
 use Rattle.rules.specs.Pools.{Block, Tiles}
 use Rattle.rules.specs.Results.{number, Row}
@@ -76,6 +76,10 @@ module _ (rows : List Row) where
   abbrev pub Never : ℕ → Type 0
   Never k = applies k rows ≡ false
 
+  -- the case of number k is there exactly if P
+  abbrev pub Applies : ℕ → Type 0 → Type 0
+  Applies k P = (applies k rows ≡ true) ↔ P
+
   -- the test at place i of the rows, from 0, passes exactly if P
   abbrev pub PassesAt : ℕ → Type 0 → Type 0
   PassesAt i P = (appliesAt i rows ≡ false) ↔ P
@@ -113,7 +117,7 @@ pub record ReaderCases (rows : List Row) (p : List ℕ) : Type 0 where
   pub value : functionCodeOf p ≡ 8 → Passes rows 9 (NameAllowed p)
   pub by-name : functionCodeOf p ≡ 9 → Passes rows 9 (NameAllowed p × (two p 66 ≡ 0) × (1 ≤ two p 64))
 
--- THE COMMAND CALL: beside those, number 8, and by function code 10 to 15, 17, 18, and 9 of a command that names a symbol
+-- THE COMMAND CALL: beside those, number 8, and by function code 10 to 15, 17, 18, 19, and 9 of a command that names a symbol
 
 -- a transaction number that no place is busy with, and one that some place is
 abbrev pub NumberFree : State → List ℕ → Type 0
@@ -125,9 +129,23 @@ NumberBusy s p = (i : ℕ) × (i < 4) × (busyWith (commandTransaction p) (conte
 abbrev pub PlaceFree : State → Type 0
 PlaceFree s = (i : ℕ) × (i < 4) × (contextAt (s .places) i ≡ Idle)
 
+-- how a range misses: no region in use holds its first word; one does, and none holds the range whole
+abbrev pub Outside : State → Range → Type 0
+Outside s r = (i : ℕ) → StartsIn (s .regions) (s .count) r i → ⊥
+
+abbrev pub RunningOut : State → Range → Type 0
+RunningOut s r = ((i : ℕ) × StartsIn (s .regions) (s .count) r i) × ((i : ℕ) → LiesIn (λ (g : Region). true) (s .regions) (s .count) r i → ⊥)
+
+-- a range of a word or more passes both exactly if a region in use holds it whole
+abbrev pub PassesBoth : List Row → State → Range → Type 0
+PassesBoth rows s r =
+    1 ≤ r .words → ((applies 10 rows ≡ false) × (applies 19 rows ≡ false)) ↔ ((i : ℕ) × LiesIn (λ (g : Region). true) (s .regions) (s .count) r i)
+
 -- a dump of the range r
 pub record DumpCases (rows : List Row) (s : State) (p : List ℕ) (r : Range) : Type 0 where
-  pub region : Passes rows 10 ((i : ℕ) × LiesIn (λ (g : Region). true) (s .regions) (s .count) r i)
+  pub outside : Applies rows 10 (Outside s r)
+  pub runs-out : Applies rows 19 (RunningOut s r)
+  pub whole : PassesBoth rows s r
   pub right : Passes rows 11 (DumpableIn (s .regions) (s .count) r)
   pub transaction : Passes rows 12 (NumberFree s p)
   pub place : Passes rows 13 (PlaceFree s)
@@ -135,17 +153,19 @@ pub record DumpCases (rows : List Row) (s : State) (p : List ℕ) (r : Range) : 
 
 pub record CancelCases (rows : List Row) (s : State) (p : List ℕ) : Type 0 where
   pub transaction : Passes rows 14 (NumberBusy s p)
-  pub others : Never rows 10 × Never rows 11 × Never rows 12 × Never rows 13 × Never rows 15
+  pub others : Never rows 10 × Never rows 11 × Never rows 12 × Never rows 13 × Never rows 15 × Never rows 19
 
 pub record LoadCases (rows : List Row) (s : State) (p : List ℕ) : Type 0 where
-  pub region : Passes rows 10 ((i : ℕ) × LiesIn (λ (g : Region). true) (s .regions) (s .count) (rangeOf p) i)
+  pub outside : Applies rows 10 (Outside s (rangeOf p))
+  pub runs-out : Applies rows 19 (RunningOut s (rangeOf p))
+  pub whole : PassesBoth rows s (rangeOf p)
   pub right : Passes rows 11 ((i : ℕ) × LiesIn (λ (g : Region). g .load) (s .regions) (s .count) (rangeOf p) i)
   pub others : Never rows 12 × Never rows 13 × Never rows 14 × Never rows 15
 
 pub record PoolCases (rows : List Row) (s : State) (p image : List ℕ) : Type 0 where
   pub there : Passes rows 10 (poolAt (s .pools) (poolOf p) .words ≢ 0)
   pub blocks : Passes rows 15 ((bs : List Block) × Tiles (poolWords s (poolOf p) image) bs)
-  pub others : Never rows 11 × Never rows 12 × Never rows 13 × Never rows 14
+  pub others : Never rows 11 × Never rows 12 × Never rows 13 × Never rows 14 × Never rows 19
 
 -- The value of a symbol: no other number than 17, 9 and 18. Of the rows' two 9s the first, before 18, stands at place 9, from 0, and the second, after
 -- 18, at place 11.
@@ -153,7 +173,7 @@ pub record ValueCases (rows : List Row) (c : CommandArgs) : Type 0 where
   pub table : Passes rows 17 (IsTable (c .symbols))
   pub name : PassesAt rows 9 (NameAllowed (c .packet)) × (appliesAt 11 rows ≡ false)
   pub known : IsTable (c .symbols) → Passes rows 18 ((v : ℕ) × Named (c .symbols) (nameFrom (c .packet)) v)
-  pub others : Never rows 10 × Never rows 11 × Never rows 12 × Never rows 13 × Never rows 14 × Never rows 15
+  pub others : Never rows 10 × Never rows 11 × Never rows 12 × Never rows 13 × Never rows 14 × Never rows 15 × Never rows 19
 
 -- a dump by name
 pub record ByNameCases (rows : List Row) (s : State) (c : CommandArgs) : Type 0 where

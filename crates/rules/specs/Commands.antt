@@ -1,4 +1,4 @@
--- Paper 01, "Result numbers" and "What each command does", and paper 02, A2: the command call, from all that is lent to all that is left.
+-- Paper 01, "Result numbers" and "What each command does", and paper 02, A2 and A5: the command call, from all that is lent to all that is left.
 use mathlib.Core.Bool.{Bool, true, false, not, cond, _&&_}
 use mathlib.Core.List.{List, [], _∷_, _++_}
 use Prim.Native.Nat.{ℕ, _+_, _%_}
@@ -6,7 +6,7 @@ use lib.Dec.{leb, eqb}
 use lib.ListN.{length, set, take}
 use Rattle.lists.specs.Below.{anyBelow, firstBelow}
 use Rattle.lists.specs.Splice.{splice}
-use Rattle.rules.specs.Regions.{aligned, inOneRegion, anyRight, loadRight, dumpRight, imageIndex, wordsOf}
+use Rattle.rules.specs.Regions.{aligned, inOneRegion, loadRight, dumpRight, startsInside, runsOut, imageIndex, wordsOf}
 use Rattle.rules.specs.States.{poolAt, contextAt, busyWith}
 use Rattle.rules.specs.Packets.{wellFormed, apidOf, commandApid, decode, packetLength, nameFits, fieldRules, zeroRules, requested, commandUnit, commandTransaction, dataWords, nameIn}
 use Rattle.rules.specs.Values.{addressFits, addressOf, valueLength, valueBytes}
@@ -28,7 +28,7 @@ use Rattle.rules.specs.declared.Task.the-variants.{Nothing, DumpRange, C
 use Rattle.rules.specs.declared.Decoded.{Decoded}
 use Rattle.rules.specs.declared.Decoded.the-variants.{Unknown, Known}
 use Rattle.rules.specs.declared.Refusal.{Refusal}
-use Rattle.rules.specs.declared.Refusal.the-variants.{Malformed, OtherApid, UnknownCode, PacketLength, OtherUnit, BadField, OutsideRegions, NoRight, TransactionBusy, PlacesBusy, NotBusy, PoolDamaged, BadTable, UnknownSymbol}
+use Rattle.rules.specs.declared.Refusal.the-variants.{Malformed, OtherApid, UnknownCode, PacketLength, OtherUnit, BadField, OutsideRegions, NoRight, TransactionBusy, PlacesBusy, NotBusy, PoolDamaged, BadTable, UnknownSymbol, RunsOut}
 use Rattle.rules.specs.declared.Verdict.{Verdict}
 use Rattle.rules.specs.declared.Verdict.the-variants.{Accepted, Rejected}
 use Rattle.rules.specs.declared.Answer.{Answer}
@@ -125,14 +125,23 @@ wrongRange symbols name (Known (SymbolValue n)) = false
 wrongRange symbols name (Known (DumpSymbol q)) =
     not (addressFits (valueOf symbols name) (q .offset) && aligned (rangeBy symbols name q) && leb 1 (q .size))
 
--- 10: range not whole in one region, or no such pool
+-- 10: the range's first word is in no region, or no such pool
 abbrev pub outside : State → Task → Bool
 outside s Nothing = false
-outside s (DumpRange r) = not (inOneRegion anyRight (s .regions) (s .count) r)
+outside s (DumpRange r) = not (startsInside (s .regions) (s .count) r)
 outside s CancelDump = false
-outside s (LoadRange r) = not (inOneRegion anyRight (s .regions) (s .count) r)
+outside s (LoadRange r) = not (startsInside (s .regions) (s .count) r)
 outside s (CountPool i) = eqb (poolAt (s .pools) i .words) 0
 outside s (TellValue v) = false
+
+-- 19: the range starts inside a region and runs out of it
+abbrev pub pastEnd : State → Task → Bool
+pastEnd s Nothing = false
+pastEnd s (DumpRange r) = runsOut (s .regions) (s .count) r
+pastEnd s CancelDump = false
+pastEnd s (LoadRange r) = runsOut (s .regions) (s .count) r
+pastEnd s (CountPool i) = false
+pastEnd s (TellValue v) = false
 
 -- 11: region lacks the right
 abbrev pub lacksRight : State → Task → Bool
@@ -194,7 +203,7 @@ poolDamaged s image (LoadRange r) = false
 poolDamaged s image (CountPool i) = isDamaged (blocksOf (poolWords s i image))
 poolDamaged s image (TellValue v) = false
 
--- a command call's rows of the table of result numbers, in the order of its tests: 1 to 8, 17, 9, 18, 9 again, and 10 to 15
+-- a command call's rows of the table of result numbers, in the order of its tests: 1 to 8, 17, 9, 18, 9 again, 10, 19, and 11 to 15
 unfoldable pub commandRows : State → CommandArgs → List Row
 commandRows s c =
     lentRows s (c .image) replyLength (c .reply)
@@ -208,6 +217,7 @@ commandRows s c =
     ∷ row UnknownSymbol (unknownName (c .symbols) (nameIn (c .packet)) (decode (c .packet)))
     ∷ row BadField (wrongRange (c .symbols) (nameIn (c .packet)) (decode (c .packet)))
     ∷ row OutsideRegions (outside s (task c))
+    ∷ row RunsOut (pastEnd s (task c))
     ∷ row NoRight (lacksRight s (task c))
     ∷ row TransactionBusy (numberTaken s (commandTransaction (c .packet)) (task c))
     ∷ row PlacesBusy (noPlace s (task c))

@@ -1,19 +1,19 @@
 -- DEMAND 1: safe, exact refusals. Over every state, packet, symbol table, image and buffer of any content and length: each number is given
--- exactly in its case, the first in the order laid down, which is the lowest but for commands that name a symbol; and a refusal leaves all as it
--- was, save a refused count where paper 01's "Result numbers" and paper 02, A2 say so.
+-- exactly in its case, the first in the order laid down, which is the lowest but for 19 and for commands that name a symbol; and a refusal leaves all
+-- as it was, save a refused count where paper 01's "Result numbers" and paper 02, A2 and A5 say so.
 -- That every call ends and touches only what it was lent is no statement here: the checker proves it of each function that has a body.
 use mathlib.Core.Path.{_≡_}
 use mathlib.Core.Logic.{_≢_, _↔_}
-use mathlib.Core.Bool.{Bool, true, false, _&&_, _||_}
+use mathlib.Core.Bool.{true, false, cond}
 use mathlib.Core.List.{List, [], _∷_, _++_}
-use Prim.Native.Nat.{ℕ, _+_, _-_, _%_, _<_}
+use Prim.Native.Nat.{ℕ, _+_, _*_, _-_, _%_, _<_}
 use lib.Dec.{eqb}
 use lib.ListN.{length, getD, take, drop, replicate}
 use Rattle.rules.specs.States.{startRules, startUp}
 use Rattle.rules.specs.Packets.{functionCodeOf}
 use Rattle.rules.specs.Results.{number, verdictNumber, answerNumber, answerLength, Row}
 use Rattle.rules.specs.AnswerNumbers.{AnswerNumbers}
-use Rattle.rules.specs.Cases.{applies, appliesAt, oneOf, bytesOf, ReaderCases, CommandCases, SlotCases, WriterCases, PacketCases}
+use Rattle.rules.specs.Cases.{applies, appliesAt, bytesOf, ReaderCases, CommandCases, SlotCases, WriterCases, PacketCases}
 use Rattle.rules.specs.Commands.{CommandArgs, Outcome, commandRows, commandCall}
 use Rattle.rules.specs.Slots.{SlotArgs, slotRows, slotCall}
 use Rattle.rules.specs.Ground.{writerRows, writeCommand, readerRows, readCommand, readingNumber, packetRows, readPacket, packetNumber}
@@ -31,10 +31,18 @@ abbrev pub numbersOf : List Row → List ℕ
 numbersOf [] = []
 numbersOf (r ∷ rs) = number (r .refusal) ∷ numbersOf rs
 
--- k is the lowest number that applies, and 0 if none does: each number is given exactly in its case
-pub record Lowest (rows : List Row) (k : ℕ) : Type 0 where
-  pub refused : (j : ℕ) → 0 < j → (k ≡ j) ↔ ((applies j rows ≡ true) × ((i : ℕ) → i < j → applies i rows ≡ false))
+-- k is the lowest number that applies, in some order of the numbers, and 0 if none does: each number is given exactly in its case
+pub record LowestBy (order : ℕ → ℕ) (rows : List Row) (k : ℕ) : Type 0 where
+  pub refused : (j : ℕ) → 0 < j → (k ≡ j) ↔ ((applies j rows ≡ true) × ((i : ℕ) → order i < order j → applies i rows ≡ false))
   pub done : (k ≡ 0) ↔ ((i : ℕ) → applies i rows ≡ false)
+
+-- in the order of their size
+abbrev pub Lowest : List Row → ℕ → Type 0
+Lowest = LowestBy (λ i. i)
+
+-- the order of the command call's numbers: that of their size, but for 19, which stands in 10's place, right after it
+abbrev pub afterTen : ℕ → ℕ
+afterTen k = cond (eqb k 19) 21 (2 * k)
 
 -- the row at place i is the first that applies, and its number is k
 pub record FirstAt (rows : List Row) (i k : ℕ) : Type 0 where
@@ -46,13 +54,6 @@ pub record FirstAt (rows : List Row) (i k : ℕ) : Type 0 where
 pub record First (rows : List Row) (k : ℕ) : Type 0 where
   pub refused : (j : ℕ) → 0 < j → (k ≡ j) ↔ ((i : ℕ) × FirstAt rows i j)
   pub done : (k ≡ 0) ↔ ((i : ℕ) → appliesAt i rows ≡ false)
-
--- numbers that return the state as handed in, and numbers that add one to the refused count and change no other part of the state
-abbrev pub keepsState : ℕ → Bool
-keepsState k = oneOf k (1 ∷ 2 ∷ 3 ∷ 5 ∷ 8 ∷ 16 ∷ [])
-
-abbrev pub countsRefused : ℕ → Bool
-countsRefused k = oneOf k (4 ∷ 6 ∷ 7 ∷ 9 ∷ 10 ∷ 11 ∷ 12 ∷ 13 ∷ 14 ∷ 15 ∷ 17 ∷ 18 ∷ [])
 
 -- every part of the state, by name: what a call may change, and the rest as it was
 abbrev pub stateWith : State → List Place → ℕ → ℕ → ℕ → ℕ → ℕ → ℕ → State
@@ -72,20 +73,18 @@ stateWith s places last replies values packets accepted refused =
     }
 
 pub record CommandRefusals (s : State) (c : CommandArgs) (o : Outcome) : Type 0 where
-  pub numbers : numbersOf (commandRows s c) ≡ 1 ∷ 2 ∷ 3 ∷ 4 ∷ 5 ∷ 6 ∷ 7 ∷ 8 ∷ 17 ∷ 9 ∷ 18 ∷ 9 ∷ 10 ∷ 11 ∷ 12 ∷ 13 ∷ 14 ∷ 15 ∷ []
+  pub numbers : numbersOf (commandRows s c) ≡ 1 ∷ 2 ∷ 3 ∷ 4 ∷ 5 ∷ 6 ∷ 7 ∷ 8 ∷ 17 ∷ 9 ∷ 18 ∷ 9 ∷ 10 ∷ 19 ∷ 11 ∷ 12 ∷ 13 ∷ 14 ∷ 15 ∷ []
   pub cases : CommandCases (commandRows s c) s c
   pub first : First (commandRows s c) (answerNumber (o .answer))
-  pub lowest : functionCodeOf (c .packet) ≢ 8 → functionCodeOf (c .packet) ≢ 9 → Lowest (commandRows s c) (answerNumber (o .answer))
+  pub lowest : functionCodeOf (c .packet) ≢ 8 → functionCodeOf (c .packet) ≢ 9 → LowestBy afterTen (commandRows s c) (answerNumber (o .answer))
   -- on every number but 0 image and reply buffer stay, and no length is reported
   pub kept : answerNumber (o .answer) ≢ 0 → (o .image ≡ c .image) × (o .buffer ≡ c .reply) × (answerLength (o .answer) ≡ 0)
-  pub same : keepsState (answerNumber (o .answer)) ≡ true → o .state ≡ s
-  pub one-more : countsRefused (answerNumber (o .answer)) ≡ true
-      → o .state ≡ stateWith s (s .places) (s .last) (s .replies) (s .values) (s .packets) (s .accepted) ((s .refused + 1) % 65536)
-  -- the same number by number: the state as handed in, and one more refused on every number but 0, 1, 2, 3, 5, 8 and 16
+  -- numbers 1, 2, 3, 5 and 8 return the state as handed in; every other but 0 (16 is for slots) adds one to the refused count and changes no other part
   pub handed-in : (answerNumber (o .answer) ≡ 1 → o .state ≡ s) × (answerNumber (o .answer) ≡ 2 → o .state ≡ s) × (answerNumber (o .answer) ≡ 3 → o .state ≡ s)
       × (answerNumber (o .answer) ≡ 5 → o .state ≡ s) × (answerNumber (o .answer) ≡ 8 → o .state ≡ s)
-  pub any-other : answerNumber (o .answer) ≢ 0 → answerNumber (o .answer) ≢ 1 → answerNumber (o .answer) ≢ 2 → answerNumber (o .answer) ≢ 3
-      → answerNumber (o .answer) ≢ 5 → answerNumber (o .answer) ≢ 8 → answerNumber (o .answer) ≢ 16 → o .state .refused ≡ (s .refused + 1) % 65536
+  pub one-more : answerNumber (o .answer) ≢ 0 → answerNumber (o .answer) ≢ 1 → answerNumber (o .answer) ≢ 2 → answerNumber (o .answer) ≢ 3
+      → answerNumber (o .answer) ≢ 5 → answerNumber (o .answer) ≢ 8 → answerNumber (o .answer) ≢ 16
+      → o .state ≡ stateWith s (s .places) (s .last) (s .replies) (s .values) (s .packets) (s .accepted) ((s .refused + 1) % 65536)
   -- number 0 adds one to the accepted count, and to no refused count
   pub accepted : answerNumber (o .answer) ≡ 0 → (o .state .accepted ≡ (s .accepted + 1) % 65536) × (o .state .refused ≡ s .refused)
   -- a command that names no symbol is answered and carried out alike whatever symbol table is lent

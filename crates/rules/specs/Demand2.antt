@@ -1,6 +1,6 @@
 -- DEMAND 2: exact effect. With a good state and buffers that fit, a command is accepted exactly when the layouts, the unit, the region
 -- table, the busy dumps, for pool figures the blocks and, where a symbol is named, the symbol table allow it, and then does exactly what papers
--- 01 and 02 (A2, A4) say.
+-- 01 and 02 (A2, A4) say; a range that misses is answered by how it did (A5).
 use mathlib.Core.Path.{_≡_}
 use mathlib.Core.Logic.{_≢_, _↔_}
 use mathlib.Core.Bool.{Bool, true, false, cond, not}
@@ -12,7 +12,7 @@ use Rattle.wire.specs.ByByte.{two, four}
 use Rattle.rules.specs.Regions.{startOf, inOneRegion, imageLength}
 use Rattle.rules.specs.States.{startRules, startUp, poolAt, contextAt, busyWith, goodState}
 use Rattle.rules.specs.Cases.{Formed, rangeOf, rangeFrom, nameFrom, poolOf, NameAllowed, NumberFree, NumberBusy, PlaceFree}
-use Rattle.rules.specs.GoodWhen.{LiesIn, DumpableIn, Lies, firstWord, GoodStart, Good}
+use Rattle.rules.specs.GoodWhen.{LiesIn, StartsIn, DumpableIn, Lies, firstWord, GoodStart, Good}
 use Rattle.rules.specs.Packets.{functionCodeOf, apidOf, commandUnit, commandTransaction}
 use Rattle.rules.specs.Pools.{Block, blockOf, Tiles, isFree, isUsed, words, blocks, largest, usable}
 use Rattle.rules.specs.Values.{Reached}
@@ -99,6 +99,27 @@ pub record AcceptedWhen (s : State) (c : CommandArgs) : Type 0 where
   pub by-name : functionCodeOf (c .packet) ≡ 9 → AreBytes (c .packet) → IsAccepted s c ↔ (ForThisBox s (c .packet) × ByNameAllowed s c)
   pub other : functionCodeOf (c .packet) ≢ 0 → functionCodeOf (c .packet) ≢ 1 → functionCodeOf (c .packet) ≢ 4
       → functionCodeOf (c .packet) ≢ 7 → functionCodeOf (c .packet) ≢ 8 → functionCodeOf (c .packet) ≢ 9 → IsAccepted s c → ⊥
+
+-- HOW A RANGE MISSES, of a command that passes every test before that of its range r
+
+pub record MissedWhen (s : State) (c : CommandArgs) (r : Range) : Type 0 where
+  -- 10 exactly if no region in use holds the range's first word
+  pub outside : (answerNumber (commandCall s c .answer) ≡ 10) ↔ ((i : ℕ) → StartsIn (s .regions) (s .count) r i → ⊥)
+  -- 19 exactly if one does, and it does not hold the range whole
+  pub runs-out : (answerNumber (commandCall s c .answer) ≡ 19)
+      ↔ ((i : ℕ) × StartsIn (s .regions) (s .count) r i × (LiesIn (λ (g : Region). true) (s .regions) (s .count) r i → ⊥))
+
+-- a dump, a load and a dump by name with such a packet
+pub record Misses (s : State) (c : CommandArgs) : Type 0 where
+  pub dump : functionCodeOf (c .packet) ≡ 0 → length (c .packet) ≡ 16 → startOf (rangeOf (c .packet)) % 4 ≡ 0 → 1 ≤ rangeOf (c .packet) .words
+      → MissedWhen s c (rangeOf (c .packet))
+  pub load : functionCodeOf (c .packet) ≡ 4 → length (c .packet) ≡ 60 → startOf (rangeOf (c .packet)) % 4 ≡ 0 → 1 ≤ rangeOf (c .packet) .words
+      → rangeOf (c .packet) .words ≤ 11 → MissedWhen s c (rangeOf (c .packet))
+  pub by-name : (v a : ℕ) → functionCodeOf (c .packet) ≡ 9 → SymbolNamed c 68 v → two (c .packet) 66 ≡ 0 → Reached v (four (c .packet) 60) a
+      → a < 4294967296 → a % 4 ≡ 0 → 1 ≤ two (c .packet) 64 → MissedWhen s c (rangeFrom (c .packet) a)
+  -- pool statistics: 10 exactly if there is no such pool, and never 19
+  pub pool : functionCodeOf (c .packet) ≡ 7 → length (c .packet) ≡ 12 → poolOf (c .packet) ≤ 1
+      → ((answerNumber (commandCall s c .answer) ≡ 10) ↔ (poolAt (s .pools) (poolOf (c .packet)) .words ≡ 0)) × (answerNumber (commandCall s c .answer) ≢ 19)
 
 -- WHAT AN ACCEPTED COMMAND DOES
 
@@ -288,6 +309,8 @@ pub record SlotExact (s : State) (c : SlotArgs) : Type 0 where
 pub record Demand2 : Type 0 where
   pub accepted-when : (s : State) (c : CommandArgs) → goodState s ≡ true → length (c .image) ≡ imageLength (s .regions) (s .count) → 32 ≤ length (c .reply)
       → AcceptedWhen s c
+  pub missed-when : (s : State) (c : CommandArgs) → goodState s ≡ true → length (c .image) ≡ imageLength (s .regions) (s .count) → 32 ≤ length (c .reply)
+      → ForThisBox s (c .packet) → Misses s c
   pub effects : (s : State) (c : CommandArgs) → IsAccepted s c → Effects s c
   pub slot : (s : State) (c : SlotArgs) → goodState s ≡ true → length (c .image) ≡ imageLength (s .regions) (s .count) → 4092 ≤ length (c .buffer)
       → SlotExact s c

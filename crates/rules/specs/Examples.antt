@@ -1,4 +1,4 @@
--- Paper 01, "Checked examples", E1 to E12, as paper 02 (A4) leaves them: computed with the definitions. Fresh states, unit 2; unless said otherwise no pools and one
+-- Paper 01, "Checked examples", E1 to E12, as paper 02 (A4, A5) leaves them: computed with the definitions. Fresh states, unit 2; unless said otherwise no pools and one
 -- region at 1000 hex of four words, both rights.
 use mathlib.Core.Path.{_≡_}
 use mathlib.Core.Bool.{true}
@@ -103,7 +103,7 @@ pub record Examples : Type 0 where
       ∷ replicate 40 0
   pub e3-answer : numbers usual (send four (load 0xABC 1 0x1000 (0x01020304 ∷ [])) ∷ []) ≡ 0 ∷ []
   pub e3-image : images usual (send four (load 0xABC 1 0x1000 (0x01020304 ∷ [])) ∷ []) ≡ (0x01020304 ∷ 0x22222222 ∷ 0x33333333 ∷ 0x44444444 ∷ []) ∷ []
-  pub e4 : numbers usual (send four (dump 1 4 0x1000) ∷ send four (dump 2 5 0x1000) ∷ []) ≡ 0 ∷ 10 ∷ []
+  pub e4 : numbers usual (send four (dump 1 4 0x1000) ∷ send four (dump 2 5 0x1000) ∷ []) ≡ 0 ∷ 19 ∷ []
   pub e5 : numbers usual (send four (dump 1 1 0x1002) ∷ send four (load 1 1 0x1002 (7 ∷ [])) ∷ []) ≡ 9 ∷ 9 ∷ []
   pub e6 : numbers usual (send four (dump 1 0 0x1000) ∷ send four (load 1 0 0x1000 []) ∷ []) ≡ 9 ∷ 9 ∷ []
   pub e7 : numbers (fresh (both 0x1000 11 ∷ []))
@@ -127,8 +127,8 @@ pub record Examples : Type 0 where
   -- the m of demand 3, and its 4 m slots
   pub e8-pieces : map due (1016 ∷ 1017 ∷ 65535 ∷ []) ≡ 1 ∷ 2 ∷ 65 ∷ []
   pub e8-slots : 4 * due 65535 ≡ 260
-  pub e9 : numbers (fresh (both 0xFFFFFFF0 4 ∷ [])) (send four (dump 1 1 0xFFFFFFFC) ∷ send four (dump 2 2 0xFFFFFFFC) ∷ []) ≡ 0 ∷ 10 ∷ []
-  pub e10 : numbers (fresh (both 0x1000 2 ∷ both 0x1008 2 ∷ [])) (send four (dump 1 2 0x1004) ∷ send four (load 2 2 0x1004 (7 ∷ 7 ∷ [])) ∷ []) ≡ 10 ∷ 10 ∷ []
+  pub e9 : numbers (fresh (both 0xFFFFFFF0 4 ∷ [])) (send four (dump 1 1 0xFFFFFFFC) ∷ send four (dump 2 2 0xFFFFFFFC) ∷ []) ≡ 0 ∷ 19 ∷ []
+  pub e10 : numbers (fresh (both 0x1000 2 ∷ both 0x1008 2 ∷ [])) (send four (dump 1 2 0x1004) ∷ send four (load 2 2 0x1004 (7 ∷ 7 ∷ [])) ∷ []) ≡ 19 ∷ 19 ∷ []
   -- whatever the words x inside the blocks
   pub e11 : (w x y z : ℕ) → written (box (both 0x1000 6 ∷ []) (range 0x1000 6))
       (send (0x80000002 ∷ w ∷ 0x00000004 ∷ x ∷ y ∷ z ∷ []) (commandBytes (header 0 0x123) (PoolStatistics 1) []) ∷ [])

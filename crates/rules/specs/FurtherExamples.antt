@@ -7,9 +7,10 @@ use lib.ListN.{drop, replicate}
 use Rattle.rules.specs.Regions.{noRange}
 use Rattle.rules.specs.States.{startUp}
 use Rattle.rules.specs.Packets.{commandBytes}
+use Rattle.rules.specs.Commands.{commandCall}
 use Rattle.rules.specs.Results.{answerNumber, answerLength}
 use Rattle.rules.specs.Ground.{writeCommand, readCommand, readingNumber, readPacket}
-use Rattle.rules.specs.Demand3.{Call}
+use Rattle.rules.specs.Demand3.{Call, events}
 use Rattle.rules.specs.Examples.{range, both, box, fresh, header, dump, load, send, slotAt, numbers, written, four, usual}
 use Rattle.rules.specs.declared.Command.{Command}
 use Rattle.rules.specs.declared.Command.the-variants.{Dump, Cancel, Load, PoolStatistics}
@@ -24,6 +25,17 @@ region a n l d = record { range = range a n; load = l; dump = d }
 
 abbrev pub cancel : ℕ → List ℕ
 cancel t = commandBytes (header 0 t) Cancel []
+
+-- a box with two touching regions, and after a gap of four words a third; each has two words, and the third has load right alone
+abbrev pub apart : State
+apart = fresh (both 0x1000 2 ∷ both 0x1008 2 ∷ region 0x1020 2 true false ∷ [])
+
+abbrev pub sendApart : List ℕ → Call
+sendApart p = send (replicate 6 0) p
+
+-- what each of these commands is answered by that box while it is fresh
+abbrev pub alone : List (List ℕ) → List ℕ
+alone ps = map (λ p. answerNumber (commandCall apart (record { packet = p; symbols = []; image = replicate 6 0; reply = replicate 32 0 }) .answer)) ps
 
 -- a box whose only region, of two words, is pool 1, and its figures
 abbrev pub pair : State
@@ -56,6 +68,26 @@ pub record FurtherExamples : Type 0 where
   pub rights : numbers (fresh (region 0x1000 2 false true ∷ region 0x1008 2 true false ∷ []))
       (send four (dump 1 1 0x1000) ∷ send four (load 1 1 0x1000 (7 ∷ [])) ∷ send four (dump 2 1 0x1008) ∷ send four (load 1 1 0x1008 (7 ∷ [])) ∷ [])
       ≡ 0 ∷ 11 ∷ 11 ∷ 0 ∷ []
+  -- a range that starts inside: over two touching regions, from a region's last word into the gap, and on into the next; past the last region
+  pub runs-out : alone (dump 1 2 0x1004 ∷ load 1 2 0x1004 (7 ∷ 7 ∷ []) ∷ dump 1 2 0x100C ∷ dump 1 7 0x100C ∷ load 1 3 0x1020 (7 ∷ 7 ∷ 7 ∷ []) ∷ [])
+      ≡ 19 ∷ 19 ∷ 19 ∷ 19 ∷ 19 ∷ []
+  -- a range that starts in no region: before the first, at a region's end in the gap, in the gap and into the next region, past the last; no such pool
+  pub outside : alone
+      (dump 1 1 0x0FFC ∷ dump 1 2 0x0FFC ∷ dump 1 1 0x1010 ∷ load 1 5 0x1010 (replicate 5 7) ∷ dump 1 1 0x101C ∷ dump 1 3 0x101C ∷ dump 1 1 0x1028
+      ∷ commandBytes (header 0 1) (PoolStatistics 1) []
+      ∷ [])
+      ≡ 10 ∷ 10 ∷ 10 ∷ 10 ∷ 10 ∷ 10 ∷ 10 ∷ 10 ∷ []
+  -- the longest dumps, from a region's last word on and from a gap on
+  pub longest : alone (dump 1 65535 0x1004 ∷ dump 1 65535 0x1024 ∷ dump 1 65535 0x0FFC ∷ dump 1 65535 0x1010 ∷ []) ≡ 19 ∷ 19 ∷ 10 ∷ 10 ∷ []
+  -- at a region's end, where the next one touches, the first word is in that one
+  pub touching : alone (dump 1 1 0x1008 ∷ dump 1 2 0x1008 ∷ dump 1 3 0x1008 ∷ []) ≡ 0 ∷ 0 ∷ 19 ∷ []
+  -- 9 before 19, and 19 before 11, 12 and 13; each is counted
+  pub runs-out-order : numbers apart
+      (sendApart (dump 1 3 0x1006) ∷ sendApart (dump 1 3 0x1020) ∷ sendApart (dump 1 1 0x1000) ∷ sendApart (dump 1 3 0x1000) ∷ sendApart (dump 2 1 0x1000)
+      ∷ sendApart (dump 3 1 0x1000) ∷ sendApart (dump 4 1 0x1000) ∷ sendApart (dump 5 3 0x1000) ∷ sendApart (dump 5 1 0x1010) ∷ [])
+      ≡ 9 ∷ 19 ∷ 0 ∷ 19 ∷ 0 ∷ 0 ∷ 0 ∷ 19 ∷ 10 ∷ []
+  pub runs-out-counted : map (λ e. e .out .state .refused) (events apart (sendApart (dump 1 3 0x1000) ∷ sendApart (load 1 3 0x1020 (7 ∷ 7 ∷ 7 ∷ [])) ∷ []))
+      ≡ 1 ∷ 2 ∷ []
   -- a cancel of a number that is not busy, of one that is, and of one that was
   pub cancels : numbers usual (send four (dump 1 1 0x1000) ∷ send four (cancel 2) ∷ send four (cancel 1) ∷ slotAt four 6 ∷ send four (cancel 1) ∷ [])
       ≡ 0 ∷ 14 ∷ 0 ∷ 16 ∷ 14 ∷ []

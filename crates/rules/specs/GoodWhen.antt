@@ -22,6 +22,12 @@ pub record LiesIn (right : Region → Bool) (rs : List Region) (n : ℕ) (a : Ra
   pub to : endOf a ≤ endOf (rangeAt rs i)
   pub allowed : right (regionAt rs i) ≡ true
 
+-- region i of the table, which is in use, holds the first word of the range a
+pub record StartsIn (rs : List Region) (n : ℕ) (a : Range) (i : ℕ) : Type 0 where
+  pub in-use : i < n
+  pub from : startOf (rangeAt rs i) ≤ startOf a
+  pub word : startOf a + 4 ≤ endOf (rangeAt rs i)
+
 -- whole in one region with dump right
 abbrev pub DumpableIn : List Region → ℕ → Range → Type 0
 DumpableIn rs n a = (i : ℕ) × LiesIn (λ (g : Region). g .dump) rs n a i

@@ -116,7 +116,7 @@ packetFields p =
       words = beAt 4 p 24;
     }
 
--- the requested range could be a dump: aligned, 1 to 65,535 words, end at most 2^32
+-- a range that some dump could ask for: a start that is a multiple of 4, 1 to 65,535 words, and no word past 2^32
 abbrev pub couldBeDumped : Range → Bool
 couldBeDumped r = aligned r && leb 1 (r .words) && leb (r .words) 65535 && leb (endOf r) 4294967296
 

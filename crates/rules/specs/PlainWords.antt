@@ -6,9 +6,9 @@ use mathlib.Core.Bool.{Bool, true, false}
 use mathlib.Core.List.{List}
 use Prim.Native.Nat.{ℕ, _+_, _*_, _%_, _≤_, _<_}
 use lib.ListN.{length, getD, take}
-use Rattle.rules.specs.Regions.{startOf, endOf, regionAt, rangeAt, tableRules, imageLength, regionOf, wordsOf}
+use Rattle.rules.specs.Regions.{startOf, endOf, regionAt, rangeAt, tableRules, firstOf, imageLength, regionOf, wordsOf}
 use Rattle.rules.specs.States.{poolAt, contextAt, busyWith, goodState}
-use Rattle.rules.specs.GoodWhen.{LiesIn, wordsIn, firstWord, Lies}
+use Rattle.rules.specs.GoodWhen.{LiesIn, StartsIn, wordsIn, firstWord, Lies}
 use Rattle.rules.specs.Commands.{poolWords}
 use Rattle.rules.specs.declared.ActiveDump.{ActiveDump}
 use Rattle.rules.specs.declared.Context.{Context}
@@ -57,6 +57,11 @@ pub record PlainWords : Type 0 where
   pub lies-when : (right : Region → Bool) (rs : List Region) (n : ℕ) (a : Range) (i : ℕ) → a .start .0 % 4 ≡ 0
       → getD rs i emptyRegion .range .start .0 % 4 ≡ 0
       → LiesIn right rs n a i ↔ ((offset : ℕ) × Lies rs n a i offset × (right (getD rs i emptyRegion) ≡ true))
+  -- the first word of a range, and the region that holds it: it is one of that region's words, however long the range is
+  pub first : (a : Range) → firstOf a ≡ record { start = record { 0 = a .start .0 }; words = 1 }
+  pub starts-when : (rs : List Region) (n : ℕ) (a : Range) (i : ℕ) → a .start .0 % 4 ≡ 0 → getD rs i emptyRegion .range .start .0 % 4 ≡ 0
+      → StartsIn rs n a i
+      ↔ ((k : ℕ) × (i < n) × (k < getD rs i emptyRegion .range .words) × (a .start .0 ≡ getD rs i emptyRegion .range .start .0 + 4 * k))
   -- the region of a range, by its number; n exactly where none holds it
   pub region-of : (rs : List Region) (n : ℕ) (a : Range) (i : ℕ) → tableRules rs n ≡ true → 1 ≤ a .words → LiesIn (λ (g : Region). true) rs n a i
       → regionOf rs n a ≡ i

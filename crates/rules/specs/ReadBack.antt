@@ -1,5 +1,5 @@
 -- PACKETS ARE WRITTEN AND READ BACK AS LAID DOWN (demand 2; paper 01, "Ground reader and writer"): the command writer and reader undo each
--- other, and the dump packet reader accepts exactly what a slot of some box in a good state could write.
+-- other, and the dump packet reader accepts a packet exactly if some box with a good state has a slot that writes it.
 use mathlib.Core.Path.{_≡_}
 use mathlib.Core.Logic.{_↔_}
 use mathlib.Core.Bool.{true}

@@ -1,6 +1,6 @@
--- Paper 01, "Regions and image": ranges, the region table, and where a range lies in the image.
+-- Paper 01, "Regions and image", and paper 02, A5: ranges, the region table, how a range misses it, and where a range lies in the image.
 -- A table is a list of region entries with the count n of those in use.
-use mathlib.Core.Bool.{Bool, true, false, _&&_}
+use mathlib.Core.Bool.{Bool, true, false, _&&_, not}
 use mathlib.Core.List.{List}
 use Prim.Native.Nat.{ℕ, zero, suc, _+_, _*_, _-_, _/_, _%_}
 use lib.Dec.{leb, eqb}
@@ -56,7 +56,7 @@ regionRules rs i =
 unfoldable pub tableRules : List Region → ℕ → Bool
 tableRules rs n = leb 1 n && leb n 16 && allBelow (regionRules rs) n
 
--- THE RANGE LIES WHOLE IN ONE REGION. This is the one place that says so.
+-- THE RANGE LIES WHOLE IN ONE REGION
 
 -- the rights that a range may need of its region
 abbrev pub anyRight : Region → Bool
@@ -75,6 +75,20 @@ holds right rs a i = within a (rangeAt rs i) && right (regionAt rs i)
 -- some region in use holds the range a whole, and has the right
 unfoldable pub inOneRegion : (Region → Bool) → List Region → ℕ → Range → Bool
 inOneRegion right rs n a = anyBelow (holds right rs a) n
+
+-- HOW A RANGE MISSES
+
+-- the first word of a range
+abbrev pub firstOf : Range → Range
+firstOf a = record { start = a .start; words = 1 }
+
+-- some region in use holds the first word of the range a
+abbrev pub startsInside : List Region → ℕ → Range → Bool
+startsInside rs n a = inOneRegion anyRight rs n (firstOf a)
+
+-- the range a starts inside a region and runs out of it: none holds it whole
+abbrev pub runsOut : List Region → ℕ → Range → Bool
+runsOut rs n a = startsInside rs n a && not (inOneRegion anyRight rs n a)
 
 -- THE IMAGE: the words of the regions back to back, in table order
 

@@ -8,7 +8,7 @@ use Rattle.rules.specs.Regions.{imageLength}
 use Rattle.rules.specs.States.{goodState}
 use Rattle.rules.specs.declared.State.{State}
 use Rattle.rules.specs.declared.Refusal.{Refusal}
-use Rattle.rules.specs.declared.Refusal.the-variants.{BadState, ImageLength, BufferLength, Malformed, OtherApid, UnknownCode, PacketLength, OtherUnit, BadField, OutsideRegions, NoRight, TransactionBusy, PlacesBusy, NotBusy, PoolDamaged, NothingToSend, BadTable, UnknownSymbol}
+use Rattle.rules.specs.declared.Refusal.the-variants.{BadState, ImageLength, BufferLength, Malformed, OtherApid, UnknownCode, PacketLength, OtherUnit, BadField, OutsideRegions, NoRight, TransactionBusy, PlacesBusy, NotBusy, PoolDamaged, NothingToSend, BadTable, UnknownSymbol, RunsOut}
 use Rattle.rules.specs.declared.Verdict.{Verdict}
 use Rattle.rules.specs.declared.Verdict.the-variants.{Accepted, Rejected}
 use Rattle.rules.specs.declared.Answer.{Answer}
@@ -34,6 +34,7 @@ number PoolDamaged = 15
 number NothingToSend = 16
 number BadTable = 17
 number UnknownSymbol = 18
+number RunsOut = 19
 
 -- whether a command that is refused so adds one to the refused count; if not, the state is returned as handed in
 abbrev pub counted : Refusal → Bool
@@ -55,6 +56,7 @@ counted PoolDamaged = true
 counted NothingToSend = false
 counted BadTable = true
 counted UnknownSymbol = true
+counted RunsOut = true
 
 -- the number and the length of an answer; a refusal reports length 0
 abbrev pub verdictNumber : Verdict → ℕ
@@ -78,7 +80,7 @@ abbrev pub row : Refusal → Bool → Row
 row r b = record { refusal = r; applies = b }
 
 -- The first row that applies. The rows of a call stand in the order laid down for its tests: they ascend by number, so that this is the lowest
--- number that applies, but for those of the command call that only codes 8 and 9 can get.
+-- number that applies, but for 19, right after 10, and those of the command call that only codes 8 and 9 can get.
 unfoldable pub lowest : List Row → Verdict
 lowest [] = Accepted
 lowest (r ∷ rs) = cond (r .applies) (Rejected (r .refusal)) (lowest rs)

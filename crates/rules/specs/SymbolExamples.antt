@@ -109,6 +109,8 @@ pub record SymbolExamples : Type 0 where
   pub offsets : numbers usual
       (map (λ o. send (byName 1 heat o 1)) (0xFFFFEFFB ∷ 0xFFFFEFFC ∷ 2 ∷ 0xFFFFFFF8 ∷ 0x80000000 ∷ 0x7FFFFFFC ∷ 0xFFFFFFFC ∷ []))
       ≡ 9 ∷ 10 ∷ 9 ∷ 10 ∷ 9 ∷ 10 ∷ 0 ∷ []
+  -- up to the region's last word, and one word more
+  pub runs-out : numbers usual (map (λ n. send (byName n heat 8 n)) (1 ∷ 2 ∷ []) ++ map (λ n. send (byName n heat 0 n)) (3 ∷ 4 ∷ [])) ≡ 0 ∷ 19 ∷ 0 ∷ 19 ∷ []
   -- 17 and 18 are counted, and a told value raises the count of APID 786 alone
   pub counted : counts usual (sendWith (1 ∷ []) (value 1 h1) ∷ send (value 1 (0x58 ∷ [])) ∷ send (value 1 h1) ∷ [])
       ≡ (1 ∷ 0 ∷ 0 ∷ []) ∷ (2 ∷ 0 ∷ 0 ∷ []) ∷ (2 ∷ 0 ∷ 1 ∷ []) ∷ []

@@ -112,7 +112,7 @@ pub enum Task {
     TellValue(u32),
 }
 
-// Why a call is refused: one variant for each number from 1 to 18, in that order.
+// Why a call is refused: one variant for each number from 1 to 19, in that order.
 pub enum Refusal {
     BadState,
     ImageLength,
@@ -132,6 +132,7 @@ pub enum Refusal {
     NothingToSend,
     BadTable,
     UnknownSymbol,
+    RunsOut,
 }
 
 // The outcome of a call's tests.

@@ -38,12 +38,12 @@ pub struct Account {
     pub sums: Sums,
 }
 
-fn word(bytes: &[u8], at: usize) -> u32 {
+pub fn word(bytes: &[u8], at: usize) -> u32 {
     u32::from_be_bytes([bytes[at], bytes[at + 1], bytes[at + 2], bytes[at + 3]])
 }
 
 /// The address that a packet of code 9 asks for by the table lent to its call: the record with its name, through aliases to a value, and its offset.
-fn address_by_name(packet: &[u8], symbols: &[u8]) -> Option<u32> {
+pub fn address_by_name(packet: &[u8], symbols: &[u8]) -> Option<u32> {
     let length = packet[10] as usize;
     let mut record = symbols.chunks_exact(56).find(|record| record[1] == packet[10] && record.get(4..4 + length) == packet.get(12..12 + length))?;
     for _ in 0..256 {

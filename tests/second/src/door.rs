@@ -86,7 +86,7 @@ pub fn pack_state(state: &State) -> [u32; STATE_WORDS] {
     block
 }
 
-/// None: "no state at all: number 1".
+/// None: a block of another length, or with a word that its field cannot hold, which is answered 1.
 pub fn unpack_state(block: &[u32]) -> Option<State> {
     if block.len() != STATE_WORDS {
         return None;
@@ -173,7 +173,7 @@ pub fn pack_fields(fields: &Fields) -> [u32; COMMAND_WORDS] {
     block
 }
 
-/// Words 7 to 18: "the 48 bytes that hold a symbol's name, four to a word, the first in the top bits"; word 19: "how many of them the name has".
+/// Words 7 to 18 hold the name's field, each four of its bytes, big-endian. Word 19 is the name's size.
 fn pack_name(block: &mut [u32; COMMAND_WORDS], name: &Name) {
     for (word, four) in block[7..19].iter_mut().zip(name.bytes.chunks(4)) {
         *word = u32::from_be_bytes([four[0], four[1], four[2], four[3]]);
@@ -424,7 +424,7 @@ mod wrappers {
 
     thread_local!(static TURN: Cell<usize> = const { Cell::new(0) });
 
-    /// "A pointer may be anything where its length is 0": null, an odd one and a far one in turn.
+    /// The pointer of what has no length, which may be any: null, an odd one and a far one in turn.
     fn anything() -> usize {
         TURN.with(|turn| {
             turn.set(turn.get() + 1);

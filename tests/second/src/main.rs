@@ -6,7 +6,7 @@ mod account;
 mod make;
 mod rng;
 
-use account::{Account, Sums};
+use account::{address_by_name, word, Account, Sums};
 use make::*;
 use rng::Rng;
 use second::door::{self, by_model, Answer, COMMAND_WORDS, STATE_WORDS};
@@ -218,8 +218,7 @@ fn item_of(call: &Call, i: usize) -> &[u8] {
     }
 }
 
-/// "It equals the single calls made in order, refused ones included": the items of a batch answered 0, one by one through the library's command
-/// call, beside what the library's batch left.
+/// Request A1: the items of a batch answered 0, one by one through the library's command call, beside what the library's batch left.
 fn one_by_one(call: &Call, batch: &Outcome) -> Option<String> {
     let mut words = call.words.clone();
     let mut image = call.image.clone();
@@ -243,7 +242,7 @@ fn one_by_one(call: &Call, batch: &Outcome) -> Option<String> {
 
 #[derive(Clone, Copy, PartialEq, Debug)]
 enum Unused {
-    /// Given as 0 ("Load data beyond the size is ignored").
+    /// Given as 0, since a command does not look at them.
     Zero,
     /// Given as they stand in the packet.
     Sent,
@@ -283,12 +282,38 @@ fn settle_unused(reading: &mut Option<Unused>, call: &Call, model: &mut Outcome,
 // The run
 // ------------------------------------------------------------------------------------------------------------------------------------
 
-/// The numbers are 0 to 18.
-const NUMBERS: usize = 19;
+/// The numbers are 0 to 19.
+const NUMBERS: usize = 20;
 const CODES: [(u8, &str); 6] =
     [(0, "dump"), (1, "cancel"), (4, "load"), (7, "pool statistics"), (8, "value of a symbol"), (9, "dump by name")];
-/// By the free blocks: none, each of one word, and others.
-const POOLS: [&str; 3] = ["no free block", "free blocks of one word", "larger ones"];
+/// By the free blocks: none, each of one word, and others. The last is answered 10.
+const POOLS: [&str; 4] = ["no free block", "free blocks of one word", "larger ones", "absent"];
+/// The codes of `CODES` that name a range, and where one lies that gets 19, 10 or, beside them, 0.
+const RANGE_CODES: [usize; 3] = [0, 2, 5];
+const RANGES: [(u32, &str); 7] = [
+    (19, "into a gap"),
+    (19, "into a touching region"),
+    (19, "past 2^32"),
+    (10, "from a gap into a region"),
+    (10, "from a region's end"),
+    (10, "elsewhere"),
+    (0, "from a region's end, where the next one touches"),
+];
+
+/// Which of `RANGES` it is by the region table alone, if any.
+fn range_kind(setup: &Setup, address: u32, words: u32) -> Option<usize> {
+    let (start, end) = (u64::from(address), u64::from(address) + 4 * u64::from(words));
+    let regions = || setup.regions[..setup.region_count as usize].iter().map(|r| (u64::from(r.start.0), u64::from(r.start.0) + 4 * u64::from(r.size)));
+    let at_an_end = regions().any(|region| region.1 == start);
+    match regions().find(|region| region.0 <= start && start < region.1) {
+        Some(region) if end <= region.1 => at_an_end.then_some(6),
+        Some(region) if region.1 == 1 << 32 => Some(2),
+        Some(region) => Some(usize::from(regions().any(|next| next.0 == region.1))),
+        None if at_an_end => Some(4),
+        None if regions().any(|region| start < region.0 && region.0 < end) => Some(3),
+        None => Some(5),
+    }
+}
 
 struct Run {
     seed: u64,
@@ -305,6 +330,8 @@ struct Run {
     /// Commands answered 0 by function code.
     done: [u64; CODES.len()],
     pools: [u64; POOLS.len()],
+    /// Ranges that got the number of their kind, by code.
+    ranges: [[u64; RANGES.len()]; RANGE_CODES.len()],
     sums: Sums,
 }
 
@@ -387,6 +414,7 @@ impl Run {
             tables: [0; TABLES.len()],
             done: [0; CODES.len()],
             pools: [0; POOLS.len()],
+            ranges: [[0; RANGES.len()]; RANGE_CODES.len()],
             sums: Sums::default(),
         }
     }
@@ -417,20 +445,21 @@ impl Run {
             exit(1);
         }
         let kind = KINDS.iter().position(|&kind| kind == call.kind).unwrap_or(0);
-        self.table[kind][door.number.min(18) as usize] += 1;
+        self.table[kind][door.number as usize] += 1;
         if call.kind == Kind::Command {
-            self.count_command(&call.packet, call.table, door.number, &door.buffer);
+            self.count_command(call, &call.packet, door.number, &door.buffer);
         }
         if call.kind == Kind::Batch && door.number == 0 {
             for i in 0..call.starts.len() {
-                self.items[door.answers[i].number.min(18) as usize] += 1;
-                self.count_command(item_of(call, i), call.table, door.answers[i].number, &door.buffer[32 * i..]);
+                self.items[door.answers[i].number as usize] += 1;
+                self.count_command(call, item_of(call, i), door.answers[i].number, &door.buffer[32 * i..]);
             }
         }
         door
     }
 
-    fn count_command(&mut self, packet: &[u8], table: usize, number: u32, reply: &[u8]) {
+    /// A call's packet, or that of an item: what it got, and its reply.
+    fn count_command(&mut self, call: &Call, packet: &[u8], number: u32, reply: &[u8]) {
         if (1..=8).contains(&number) {
             return;
         }
@@ -442,9 +471,21 @@ impl Run {
             let (free_blocks, usable) = (&reply[16..20], &reply[20..24]);
             self.pools[if free_blocks == [0; 4] { 0 } else if usable == [0; 4] { 1 } else { 2 }] += 1;
         }
+        if number == 10 && code == 7 {
+            self.pools[3] += 1;
+        }
         if code == 8 || code == 9 {
-            self.by_name[code as usize - 8][number.min(18) as usize] += 1;
-            self.tables[table] += 1;
+            self.by_name[code as usize - 8][number as usize] += 1;
+            self.tables[call.table] += 1;
+        }
+        if let Some(k) = RANGE_CODES.iter().position(|&k| CODES[k].0 == code).filter(|_| [0, 10, 19].contains(&number)) {
+            let (address, size) = if code == 9 { (address_by_name(packet, &call.symbols), 64) } else { (Some(word(packet, 12)), 10) };
+            let words = u32::from(packet[size]) << 8 | u32::from(packet[size + 1]);
+            // No command changes the table, so that a batch's items have that of the call.
+            let setup = door::unpack_state(&call.words).map(|state| state.setup);
+            if let Some(kind) = setup.zip(address).and_then(|(setup, address)| range_kind(&setup, address, words)) {
+                self.ranges[k][kind] += u64::from(RANGES[kind].0 == number);
+            }
         }
     }
 
@@ -529,7 +570,7 @@ impl Run {
         exit(1);
     }
 
-    /// "Writing and reading gives the fields (used data words only)"; of a name, the used bytes only.
+    /// Ground reader and writer: a written packet reads as what the writer was given. Of a load only used words matter, of a name only used bytes.
     fn read_back(&mut self, rng: &mut Rng, written: &Call, outcome: &Outcome) {
         let mut read = Call::new(Kind::ReadCommand, rng);
         read.packet = outcome.buffer[..outcome.length as usize].to_vec();
@@ -566,7 +607,7 @@ impl Run {
         }
     }
 
-    /// "Reading and writing gives the bytes, for a load only if its unused words are 0"; for a name, if its unused bytes are.
+    /// Ground reader and writer: what was read from a packet is written as that packet, if the unused words of a load or bytes of a name are 0.
     fn write_back(&mut self, rng: &mut Rng, read: &Call, outcome: &Outcome) {
         let mut write = Call::new(Kind::WriteCommand, rng);
         write.fixed = outcome.words.clone();
@@ -716,7 +757,7 @@ impl Run {
             }
         }
         rows.push(("code 8, of both", &[0, 9, 17, 18], &self.by_name[0]));
-        rows.push(("code 9, of both", &[0, 9, 10, 11, 12, 13, 17, 18], &self.by_name[1]));
+        rows.push(("code 9, of both", &[0, 9, 10, 11, 12, 13, 17, 18, 19], &self.by_name[1]));
         for (name, numbers, counts) in rows {
             print!("{name:<15}");
             for number in 0..NUMBERS as u32 {
@@ -738,9 +779,13 @@ impl Run {
         };
         println!("commands done: {}", list(&CODES.map(|code| code.1), &self.done));
         println!("pools told: {}", list(&POOLS, &self.pools));
+        for (k, counts) in RANGE_CODES.iter().zip(&self.ranges) {
+            let each: Vec<String> = RANGES.iter().zip(counts).map(|((number, place), n)| format!("{number} {place} {n}")).collect();
+            println!("ranges of a {}: {}", CODES[*k].1, each.join(", "));
+        }
         println!("symbol tables that codes 8 and 9 tested: {}", list(&TABLES[..NO_TABLE], &self.tables));
         println!("no symbol tables: {}; table or none: {}", list(&TABLES[NO_TABLE..DISTURBED], &self.tables[NO_TABLE..]), self.tables[DISTURBED]);
-        complete && self.done.iter().chain(&self.pools).all(|&n| n > 0) && self.tables.iter().all(|&n| n > 0)
+        complete && self.done.iter().chain(&self.pools).chain(&self.tables).chain(self.ranges.iter().flatten()).all(|&n| n > 0)
     }
 }
 
@@ -820,7 +865,7 @@ fn list_command(rng: &mut Rng, state: &State, setup: &Setup, symbols: &Symbols, 
             cancel_command(rng, unit, transaction)
         }
         7 => {
-            // A load into the range of a busy dump, if there is one.
+            // A load into words that a busy dump covers, if there is one.
             let mut address = None;
             for place in &state.places {
                 if let DumpPlace::Busy(dump) = place {
@@ -1075,7 +1120,7 @@ fn self_test(run: &mut Run) -> bool {
             }
         };
         let mut bad = door.clone();
-        bad.number = if rng.one_in(2) { bad.number + 1 } else { 19 };
+        bad.number = if rng.one_in(2) { bad.number + 1 } else { NUMBERS as u32 };
         try_one("number", bad);
         let mut bad = door.clone();
         bad.length ^= 1 << rng.below(32);
@@ -1227,7 +1272,7 @@ fn main() {
         }
     );
     if !complete {
-        println!("FAILED: a number that a call can give was never given, or one that it cannot give was");
+        println!("FAILED: a number that a call can give or a kind of input never came, or a number that a call cannot give did");
         exit(1);
     }
     println!("compare: {} calls agree, seed {}", run.calls, run.seed);

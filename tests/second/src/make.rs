@@ -20,10 +20,10 @@ pub const KINDS: [Kind; 7] =
     [Kind::StartUp, Kind::Command, Kind::Batch, Kind::Slot, Kind::WriteCommand, Kind::ReadCommand, Kind::ReadPacket];
 
 /// The numbers that an item of a batch can get: its 32 bytes of reply buffer are always there.
-pub const ITEM_NUMBERS: [u32; 17] = [0, 1, 2, 4, 5, 6, 7, 8, 9, 10, 11, 12, 13, 14, 15, 17, 18];
+pub const ITEM_NUMBERS: [u32; 18] = [0, 1, 2, 4, 5, 6, 7, 8, 9, 10, 11, 12, 13, 14, 15, 17, 18, 19];
 
 /// The numbers that a command call can give.
-pub const COMMAND_NUMBERS: [u32; 18] = [0, 1, 2, 3, 4, 5, 6, 7, 8, 9, 10, 11, 12, 13, 14, 15, 17, 18];
+pub const COMMAND_NUMBERS: [u32; 19] = [0, 1, 2, 3, 4, 5, 6, 7, 8, 9, 10, 11, 12, 13, 14, 15, 17, 18, 19];
 
 impl Kind {
     pub fn name(self) -> &'static str {
@@ -1025,7 +1025,7 @@ impl Symbols {
         by_name_command(rng, unit, transaction, &self.records[i].name, offset, size)
     }
 
-    /// A dump by name at an address below 0 or at 2^32 and up: just out, or good modulo 2^32. None: the table has no record.
+    /// A dump by name at an address that 32 bits cannot hold: just out, or good modulo 2^32. None: the table has no record.
     fn dump_outside(&mut self, rng: &mut Rng, unit: u32, transaction: u32, size: u32, address: u32) -> Option<Vec<u8>> {
         let i = self.some_record(rng)?;
         let address = i64::from(address);
@@ -1063,7 +1063,7 @@ pub fn mend_length(packet: &mut [u8]) {
     }
 }
 
-/// Makes the exclusive or of all bytes FF by the byte at 7.
+/// Puts the right check byte into a packet.
 pub fn mend_check(packet: &mut [u8]) {
     if packet.len() >= 8 {
         let sum = packet.iter().fold(0, |sum, byte| sum ^ byte);
@@ -1500,7 +1500,7 @@ fn aimed_nine(rng: &mut Rng, setup: &Setup, symbols: &mut Symbols, seen: bool) -
     }
 }
 
-/// A command that earns `aim` (0, 9 to 15, 17 or 18) by its fields, the state and the symbol table, which are changed to suit; and the image.
+/// A command that earns `aim` (0, 9 to 15, or 17 to 19) by its fields, the state and the symbol table, which are changed to suit; and the image.
 fn aimed_body(rng: &mut Rng, state: &mut State, symbols: &mut Symbols, aim: u32) -> (Vec<u8>, Vec<u32>) {
     let unit = state.setup.unit;
     let n = state.setup.region_count as usize;
@@ -1544,46 +1544,23 @@ fn aimed_body(rng: &mut Rng, state: &mut State, symbols: &mut Symbols, aim: u32)
             }
         },
         9 => aimed_nine(rng, &state.setup, symbols, false),
-        10 => {
-            let transaction = rng.below(4_096) as u32;
-            if rng.one_in(5) {
+        10 | 19 => {
+            let transaction = match busy_transactions(state) {
+                busy if !busy.is_empty() && rng.one_in(3) => rng.pick(&busy),
+                _ => rng.below(4_096) as u32,
+            };
+            if aim == 10 && rng.one_in(5) {
                 let p = rng.below(2) as usize;
                 state.setup.pools[p] = NO_POOL;
                 pool_command(rng, unit, transaction, p as u32)
             } else {
-                // A range over an edge of a region: past its end, before its start, or wholly outside.
-                let i = rng.below(n as u64) as usize;
-                let region = state.setup.regions[i];
-                let end = u64::from(region.start.0) + 4 * u64::from(region.size);
                 let load = rng.one_in(2);
-                let most: u64 = if load { 11 } else { 1_017 };
-                let (address, size) = match rng.below(4) {
-                    0 | 1 => {
-                        // 1 to `most` minus 1 words inside, and one or more past.
-                        let within = rng.between(1, (most - 1).min(u64::from(region.size)));
-                        let size = if rng.one_in(2) { within + 1 } else { rng.between(within + 1, most) };
-                        (end - 4 * within, size)
-                    }
-                    2 if region.start.0 != 0 => (u64::from(region.start.0) - 4, rng.between(2, most)),
-                    _ => {
-                        // An address in no region, if one is found.
-                        let mut found = None;
-                        for _ in 0..20 {
-                            let address = some_address(rng, &state.setup) & !3;
-                            if image_place(&state.setup, address).is_none() {
-                                found = Some(u64::from(address));
-                            }
-                        }
-                        match found {
-                            Some(address) => (address, rng.between(1, most)),
-                            None => (end - 4, 2),
-                        }
-                    }
-                };
+                let most = if load { 11 } else { rng.pick(&[1_017, 65_535]) };
+                let (address, size) = if aim == 10 { from_a_gap(rng, &state.setup, most) } else { out_of_a_region(rng, &state.setup, most) };
                 if load {
-                    load_command(rng, unit, transaction, size as u32, address as u32)
+                    load_command(rng, unit, transaction, size, address)
                 } else {
-                    symbols.dump(rng, unit, transaction, size as u32, address as u32)
+                    symbols.dump(rng, unit, transaction, size, address)
                 }
             }
         }
@@ -1657,6 +1634,39 @@ fn aimed_body(rng: &mut Rng, state: &mut State, symbols: &mut Symbols, aim: u32)
     (packet, image)
 }
 
+/// An address in no region, and up to `most` words from there: at a gap's first word, which is a region's end or 0, or near its last one, or between;
+/// to where a region begins, into it or any.
+fn from_a_gap(rng: &mut Rng, setup: &Setup, most: u64) -> (u32, u32) {
+    // The gaps by their first words and ends, counted in words. There is one in each table, since no table has all of the memory.
+    let mut gaps = vec![];
+    let mut end = 0;
+    for region in &setup.regions[..setup.region_count as usize] {
+        let start = u64::from(region.start.0 / 4);
+        gaps.push((end, start));
+        end = start + u64::from(region.size);
+    }
+    gaps.push((end, MEMORY_WORDS));
+    gaps.retain(|gap| gap.0 < gap.1);
+    let (first, end) = rng.pick(&gaps);
+    let at = match rng.below(3) {
+        0 => first,
+        1 => end - rng.between(1, (most - 1).min(end - first)),
+        _ => rng.between(first, end - 1),
+    };
+    let any = rng.between(1, most);
+    let size = rng.pick(&[end - at, end - at + 1, any]).min(most);
+    ((4 * at) as u32, size as u32)
+}
+
+/// An address in a region, and up to `most` words from there that run out of it. The last region, which may end at 2^32, more often.
+fn out_of_a_region(rng: &mut Rng, setup: &Setup, most: u64) -> (u32, u32) {
+    let n = setup.region_count as usize;
+    let region = setup.regions[if rng.one_in(4) { n - 1 } else { rng.below(n as u64) as usize }];
+    let within = rng.between(1, (most - 1).min(u64::from(region.size)));
+    let size = if rng.one_in(2) { within + 1 } else { rng.between(within + 1, most) };
+    (region.start.0 + 4 * (region.size - within as u32), size as u32)
+}
+
 /// 0 or over 11, spread by the given size.
 fn wrong_load_size(size: u32) -> u32 {
     if size % 2 == 0 {
@@ -1701,7 +1711,7 @@ pub fn aimed_command(rng: &mut Rng, aim: u32) -> Call {
     let mut call = Call::new(Kind::Command, rng);
     let scale = scale(rng);
     let mut state = good_state(rng, scale);
-    let inner = if aim == 0 || aim >= 9 { aim } else { rng.pick(&[0, 0, 9, 10, 11, 12, 13, 14, 15, 17, 18]) };
+    let inner = if aim == 0 || aim >= 9 { aim } else { rng.pick(&[0, 0, 9, 10, 11, 12, 13, 14, 15, 17, 18, 19]) };
     let mut symbols = Symbols::good(rng, &state.setup);
     let (packet, image) = aimed_body(rng, &mut state, &mut symbols, inner);
     call.packet = packet;
@@ -2272,7 +2282,7 @@ pub fn read_command_call(rng: &mut Rng, aim: u32) -> Call {
         return call;
     }
     let mut state = good_state(rng, Scale::Small);
-    let inner = if aim == 9 || (aim != 0 && rng.one_in(3)) { 9 } else { rng.pick(&[0, 10, 11, 12, 13, 14, 15]) };
+    let inner = if aim == 9 || (aim != 0 && rng.one_in(3)) { 9 } else { rng.pick(&[0, 10, 11, 12, 13, 14, 15, 19]) };
     let mut symbols = Symbols::of(rng, &state.setup, 4);
     call.packet = match inner {
         9 => aimed_nine(rng, &state.setup, &mut symbols, true),

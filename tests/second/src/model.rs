@@ -1,4 +1,4 @@
-//! The memory service of paper 01 with requests A1 and A2 of paper 02, written a second time, from the papers alone.
+//! The memory service of paper 01 with requests A1, A2, A4 and A5 of paper 02, written a second time, from the papers alone.
 //!
 //! Plain style: one function for each rule, each naming the section of the paper that it comes from. All sums of addresses are done in 64 bits.
 
@@ -109,12 +109,12 @@ fn aligned(address: Address) -> bool {
     address.0 % 4 == 0
 }
 
-/// "Each start is a multiple of 4; each size is 1 to 1,048,576 words; each end is at most 2^32".
+/// Regions and image: a region's start is aligned, it has at least one word and at most 1,048,576, and none of them lies past 2^32.
 fn region_keeps_rules(region: &Region) -> bool {
     aligned(region.start) && region.size >= 1 && region.size <= REGION_WORDS_MOST && end_of(region.start, region.size) <= MEMORY_END
 }
 
-/// "A table has 1 to 16 regions, ascending by start ... and [each end is] at most the next start."
+/// Regions and image: at least one region and at most 16, in the order of their addresses. They may touch but not overlap.
 fn table_keeps_rules(setup: &Setup) -> bool {
     if setup.region_count < 1 || setup.region_count as usize > REGIONS_MOST {
         return false;
@@ -143,18 +143,18 @@ fn used_regions(setup: &Setup) -> &[Region] {
     &setup.regions[..setup.region_count as usize]
 }
 
-/// The number of the region in which the range lies whole, if there is one.
-fn region_holding(setup: &Setup, start: Address, words: u32) -> Option<usize> {
+/// Request A5: which region holds the range. If no region has even the first word it is 10, and if a region has that but not all of the range, 19.
+fn region_holding(setup: &Setup, start: Address, words: u32) -> Result<usize, u32> {
     for (i, region) in used_regions(setup).iter().enumerate() {
-        if start.0 >= region.start.0 && end_of(start, words) <= end_of(region.start, region.size) {
-            return Some(i);
+        let end = end_of(region.start, region.size);
+        if start.0 >= region.start.0 && end_of(start, 1) <= end {
+            return if end_of(start, words) <= end { Ok(i) } else { Err(19) };
         }
     }
-    None
+    Err(10)
 }
 
-/// "Size 0 means no such pool, and its start is then 0. Otherwise start is a multiple of 4 and the pool lies whole in one region with dump
-/// right."
+/// Regions and image: an absent pool has start and size 0. Any other is aligned, and a single region that may be dumped holds all of it.
 fn pool_keeps_rules(setup: &Setup, pool: &Pool) -> bool {
     if pool.size == 0 {
         return pool.start == Address(0);
@@ -163,12 +163,12 @@ fn pool_keeps_rules(setup: &Setup, pool: &Pool) -> bool {
         return false;
     }
     match region_holding(setup, pool.start, pool.size) {
-        None => false,
-        Some(i) => setup.regions[i].dump,
+        Err(_) => false,
+        Ok(i) => setup.regions[i].dump,
     }
 }
 
-/// "its table, pools and unit keep these rules".
+/// Regions and image: what start-up and the good state both ask of regions, pools and unit.
 pub fn setup_keeps_rules(setup: &Setup) -> bool {
     table_keeps_rules(setup)
         && pool_keeps_rules(setup, &setup.pools[0])
@@ -176,12 +176,12 @@ pub fn setup_keeps_rules(setup: &Setup) -> bool {
         && setup.unit <= UNIT_MOST
 }
 
-/// The image's length: "the sum of the sizes".
+/// Regions and image: how many words the image must have, those of all regions together.
 pub fn image_words(setup: &Setup) -> u64 {
     used_regions(setup).iter().map(|region| u64::from(region.size)).sum()
 }
 
-/// Where in the image the word at an address of region `i` is: the regions lie back to back in table order.
+/// Where in the image the word at an address of region `i` is: after the words of the regions before it.
 fn place_in_image(setup: &Setup, i: usize, address: Address) -> ImageWord {
     let before: u64 = setup.regions[..i].iter().map(|region| u64::from(region.size)).sum();
     let within = u64::from((address.0 - setup.regions[i].start.0) / 4);
@@ -192,12 +192,12 @@ fn place_in_image(setup: &Setup, i: usize, address: Address) -> ImageWord {
 // "Regions and image": start-up and the good state
 // ------------------------------------------------------------------------------------------------------------------------------------
 
-/// "A fresh state has four idle dump places, last place served 3, and all counts 0."
+/// Regions and image: the state after start-up. No dump is busy, place 3 counts as the last one served, and every count begins at 0.
 fn fresh(setup: Setup) -> State {
     State { setup, places: [DumpPlace::Idle; 4], last: 3, count_785: 0, count_786: 0, count_788: 0, accepted: 0, refused: 0 }
 }
 
-/// "a state of zero regions, no pools, unit 0 and the rest as if fresh".
+/// Regions and image: the state that comes with 17. Its setup is empty, with unit 0, and so no call takes it.
 pub fn state_of_zero_regions() -> State {
     fresh(Setup { region_count: 0, regions: [NO_REGION; REGIONS_MOST], pools: [NO_POOL; 2], unit: 0 })
 }
@@ -207,7 +207,7 @@ pub fn start_up(setup: &Setup) -> (u32, State) {
     if !setup_keeps_rules(setup) {
         return (17, state_of_zero_regions());
     }
-    // "Unused region entries in a state that start-up gives are all zero."
+    // Regions and image: start-up clears the entries that the table does not use.
     let mut kept = setup.clone();
     for i in setup.region_count as usize..REGIONS_MOST {
         kept.regions[i] = NO_REGION;
@@ -227,8 +227,8 @@ fn busy_dump_is_good(setup: &Setup, dump: &Dump) -> bool {
         return false;
     }
     match region_holding(setup, dump.start, dump.requested) {
-        None => return false,
-        Some(i) => {
+        Err(_) => return false,
+        Ok(i) => {
             if !setup.regions[i].dump {
                 return false;
             }
@@ -249,7 +249,7 @@ fn busy_place_with(places: &[DumpPlace; 4], transaction: u32) -> Option<usize> {
     None
 }
 
-/// "a transaction number ... shared with no other busy dump".
+/// Regions and image: no two busy dumps have one transaction number.
 fn transactions_differ(places: &[DumpPlace; 4]) -> bool {
     for i in 0..4 {
         for k in 0..i {
@@ -263,7 +263,7 @@ fn transactions_differ(places: &[DumpPlace; 4]) -> bool {
     true
 }
 
-/// "A handed-in state is good if ..."
+/// Regions and image: the rules of the good state.
 pub fn state_is_good(state: &State) -> bool {
     if !setup_keeps_rules(&state.setup) {
         return false;
@@ -291,7 +291,7 @@ pub fn state_is_good(state: &State) -> bool {
 }
 
 // ------------------------------------------------------------------------------------------------------------------------------------
-// Big-endian numbers and the CCSDS primary header ("All numbers kept in bytes are big-endian.")
+// "The box and what it handles": big-endian numbers; and the CCSDS primary header
 // ------------------------------------------------------------------------------------------------------------------------------------
 
 fn get16(bytes: &[u8], at: usize) -> u32 {
@@ -336,7 +336,7 @@ fn sequence_count_of(bytes: &[u8]) -> u32 {
     get16(bytes, 2) % 16_384
 }
 
-/// "length field = packet bytes minus 7". Not modulo anything: a packet of over 65,542 bytes has no right length field.
+/// Command packets: the length field is 7 less than the packet's bytes. Not modulo anything: a packet of over 65,542 bytes has no right length field.
 fn length_field_is_right(bytes: &[u8]) -> bool {
     bytes.len() >= 7 && get16(bytes, 4) as usize == bytes.len() - 7
 }
@@ -409,7 +409,7 @@ pub fn code_of(command: &Command) -> u32 {
     }
 }
 
-/// Number 4: "under 8 bytes, wrong version, type, flags, length field, zero bit or check byte".
+/// Result numbers, 4: fewer than 8 bytes, or headers that, apart from APID and code, are not a command's, or a check byte that does not fit.
 fn command_header_is_wrong(packet: &[u8]) -> bool {
     packet.len() < 8
         || version_of(packet) != 0
@@ -448,7 +448,7 @@ fn name_of(packet: &[u8]) -> Name {
     Name { size: u32::from(packet[10]), bytes }
 }
 
-/// "nonzero pad or zero bits outside the name": of a packet of code 8 or 9 whose frame is right.
+/// Request A2: a packet of code 8 or 9, its frame right, has something else than 0 in the byte after the name's size or in code 9's last two bytes.
 fn padding_is_wrong(packet: &[u8]) -> bool {
     match packet[6] {
         8 => packet[11] != 0,
@@ -477,8 +477,8 @@ fn fields_of(packet: &[u8]) -> Fields {
     Fields { sequence: sequence_count_of(packet), unit: get16(packet, 8) / 4_096, transaction: get16(packet, 8) % 4_096, command }
 }
 
-/// Number 9: "address not a multiple of 4; dump size 0; load size 0 or over 11; pool over 1"; by A2 "name length 0 or over 48". What can be seen
-/// without a symbol table. A dump's size is a 16-bit number; for the writer, which could be given more, more is out of bounds too.
+/// Result numbers, 9, and request A2: an unaligned address, or a size, a pool number or a name's size out of its bounds. What can be seen without a
+/// symbol table. A dump's size is a 16-bit number; for the writer, which could be given more, more is out of bounds too.
 fn fields_break_bounds(command: &Command) -> bool {
     match command {
         Command::Dump { size, address } => !aligned(*address) || dump_size_is_wrong(*size),
@@ -490,7 +490,7 @@ fn fields_break_bounds(command: &Command) -> bool {
     }
 }
 
-/// "name length 0 or over 48".
+/// Request A2: a name has 1 to 48 bytes.
 fn name_size_is_wrong(name: &Name) -> bool {
     name.size == 0 || name.size > NAME_BYTES as u32
 }
@@ -507,7 +507,7 @@ fn dump_size_is_wrong(size: u32) -> bool {
 pub enum Meaning {
     /// Kind 0.
     Value(u32),
-    /// Kind 1: the number of a lower-numbered record.
+    /// Kind 1: the number of an earlier record.
     Alias(usize),
 }
 
@@ -518,7 +518,8 @@ pub struct Symbol {
     pub meaning: Meaning,
 }
 
-/// Record `number` of the table: "kind, name length 1 to 48, two zero bytes, name padded with zeros to 48, number." None: another one.
+/// Request A2, record `number` of the table: byte 0 has the kind, byte 1 the name's size, 2 and 3 are 0, the name begins at 4 and is filled up with 0,
+/// and the value or the other record's number is at 52. None: the bytes are no such record.
 fn symbol_of(record: &[u8], number: usize) -> Option<Symbol> {
     let length = usize::from(record[1]);
     if length < 1 || length > NAME_BYTES {
@@ -540,7 +541,7 @@ fn symbol_of(record: &[u8], number: usize) -> Option<Symbol> {
     Some(Symbol { name: name.to_vec(), meaning })
 }
 
-/// "Up to 256 symbols are lent as 56-byte records, numbered from 0 ... Names, told apart by length and bytes, are unique." None: "any other table".
+/// Request A2: at most 256 records of 56 bytes each, no two with the same name, where zero bytes at a name's end count. None: the bytes are no table.
 pub fn symbol_table(bytes: &[u8]) -> Option<Vec<Symbol>> {
     if bytes.len() % SYMBOL_BYTES != 0 || bytes.len() / SYMBOL_BYTES > SYMBOLS_MOST {
         return None;
@@ -557,7 +558,7 @@ pub fn symbol_table(bytes: &[u8]) -> Option<Vec<Symbol>> {
     Some(table)
 }
 
-/// "Kind 1, an alias, holds the number of a lower-numbered record and is resolved through it."
+/// Request A2: an alias stands for what the earlier record that it names stands for.
 fn value_of(table: &[Symbol], number: usize) -> u32 {
     match table[number].meaning {
         Meaning::Value(value) => value,
@@ -565,14 +566,14 @@ fn value_of(table: &[Symbol], number: usize) -> u32 {
     }
 }
 
-/// The value that a name stands for. None: "an unknown name". The size is 1 to 48.
+/// The value that a name stands for. None: no record has the name. The size is 1 to 48.
 pub fn look_up(table: &[Symbol], name: &Name) -> Option<u32> {
     let wanted = &name.bytes[..name.size as usize];
     let number = table.iter().position(|symbol| symbol.name == wanted)?;
     Some(value_of(table, number))
 }
 
-/// Value plus offset as a whole number. None: "an address below 0 or at 2^32 and up".
+/// Request A2: value plus offset as a whole number. None: 32 bits cannot hold it.
 fn address_by_name(value: u32, offset: i32) -> Option<Address> {
     let sum = i64::from(value) + i64::from(offset);
     if sum < 0 || sum >= 1 << 32 {
@@ -593,18 +594,18 @@ pub struct CommandAnswer {
     pub reply_length: u32,
 }
 
-/// "Numbers 1, 2, 3, 5, 8 and 16 return the state as handed in. Numbers 4, 6, 7 and 9 to 15, given to a command, add one to the refused
-/// count and change no other part of the state." "18 and this 17 count as refused."
+/// Result numbers: a refusal raises the refused count, which is all that it changes. Not so 1, 2, 3, 5 and 8: they change nothing. By A2 and A5 the
+/// numbers 17, 18 and 19 are counted.
 fn refused(state: &State, number: u32) -> CommandAnswer {
     let mut after = state.clone();
     match number {
-        4 | 6 | 7 | 9..=15 | 17 | 18 => after.refused = (state.refused + 1) % 65_536,
+        4 | 6 | 7 | 9..=15 | 17 | 18 | 19 => after.refused = (state.refused + 1) % 65_536,
         _ => {}
     }
     CommandAnswer { number, state: after, reply_length: 0 }
 }
 
-/// "Number 0 to a command adds one to the accepted count."
+/// Result numbers: a command that is done raises the accepted count.
 fn accepted(mut after: State, reply_length: u32) -> CommandAnswer {
     after.accepted = (after.accepted + 1) % 65_536;
     CommandAnswer { number: 0, state: after, reply_length }
@@ -644,8 +645,8 @@ pub fn command_call(state: &State, packet: &[u8], symbols: &[u8], image: &mut [u
     }
 }
 
-/// Codes 8 and 9 after number 8: "Any other table is 17 ..., tested right after 8. Next, name length 0 or over 48, or nonzero pad or zero bits outside
-/// the name, is 9; next, an unknown name is new number 18; then an address below 0 or at 2^32 and up is 9, and the dump's tests of 9 to 13 follow."
+/// Request A2, codes 8 and 9 after number 8. The order: 17 for the symbol table, 9 for the name's size and the padding, 18 if no record has the name.
+/// Code 9 goes on with 9 for an address that 32 bits cannot hold, and then with all tests of a dump.
 fn command_by_name(state: &State, fields: &Fields, name: &Name, wrong_padding: bool, symbols: &[u8], reply: &mut [u8]) -> CommandAnswer {
     let table = match symbol_table(symbols) {
         None => return refused(state, 17),
@@ -675,11 +676,11 @@ fn command_by_name(state: &State, fields: &Fields, name: &Name, wrong_padding: b
 // "What each command does"
 // ------------------------------------------------------------------------------------------------------------------------------------
 
-/// "Dump fills the lowest-numbered idle place; nothing is sent yet."
+/// What each command does: a dump takes the first place that is idle. Sending is left to the slots.
 fn do_dump(state: &State, transaction: u32, size: u32, address: Address) -> CommandAnswer {
     let region = match region_holding(&state.setup, address, size) {
-        None => return refused(state, 10),
-        Some(i) => state.setup.regions[i],
+        Err(number) => return refused(state, number),
+        Ok(i) => state.setup.regions[i],
     };
     if !region.dump {
         return refused(state, 11);
@@ -703,7 +704,7 @@ fn do_dump(state: &State, transaction: u32, size: u32, address: Address) -> Comm
     }
 }
 
-/// "Cancel makes its dump's place idle."
+/// What each command does: a cancel frees the place of the dump with its number.
 fn do_cancel(state: &State, transaction: u32) -> CommandAnswer {
     match busy_place_with(&state.places, transaction) {
         None => refused(state, 14),
@@ -715,12 +716,11 @@ fn do_cancel(state: &State, transaction: u32) -> CommandAnswer {
     }
 }
 
-/// "Load writes its words at its address in the image." "Load data beyond the size is ignored." "Loads into the range of a busy dump are
-/// allowed."
+/// What each command does: a load puts as many of its words into the image as its size says, from its address on. Busy dumps do not hinder it.
 fn do_load(state: &State, size: u32, address: Address, data: &[u32; LOAD_WORDS], image: &mut [u32]) -> CommandAnswer {
     let i = match region_holding(&state.setup, address, size) {
-        None => return refused(state, 10),
-        Some(i) => i,
+        Err(number) => return refused(state, number),
+        Ok(i) => i,
     };
     if !state.setup.regions[i].load {
         return refused(state, 11);
@@ -742,7 +742,7 @@ struct Figures {
     used_blocks: u32,
 }
 
-/// "Blocks follow each other and end exactly at the pool's end; a size of 0 or a block past the end is damage." None: damage.
+/// What each command does: from block to block, the walk must come out right at the pool's end. None: damage, which an empty block is too.
 fn walk_blocks(pool: &[u32]) -> Option<Figures> {
     let mut figures = Figures { free_words: 0, free_blocks: 0, largest_free: None, used_words: 0, used_blocks: 0 };
     let mut at: u64 = 0;
@@ -771,10 +771,11 @@ fn walk_blocks(pool: &[u32]) -> Option<Figures> {
 /// Pool statistics: the 32 bytes of the reply, and the 785 count raised.
 fn do_pool_statistics(state: &State, transaction: u32, number: u32, image: &[u32], reply: &mut [u8]) -> CommandAnswer {
     let pool = state.setup.pools[number as usize];
+    // Request A5: without such a pool it is 10, as before.
     if pool.size == 0 {
         return refused(state, 10);
     }
-    // A good state has each pool whole in one region with dump right, so 11 cannot be given here.
+    // In a good state a region that may be dumped holds all of the pool, so neither 19 nor 11 can be given here.
     let i = region_holding(&state.setup, pool.start, pool.size).expect("a good state's pool lies in a region");
     let first = place_in_image(&state.setup, i, pool.start).0;
     let figures = match walk_blocks(&image[first..first + pool.size as usize]) {
@@ -787,7 +788,7 @@ fn do_pool_statistics(state: &State, transaction: u32, number: u32, image: &[u32
     put16(reply, 10, 0);
     put32(reply, 12, figures.free_words);
     put32(reply, 16, figures.free_blocks);
-    // "The third figure becomes the largest free block's size minus one, 0 if there is none."
+    // Request A4: the first word of the largest free block does not count. 0 without a free block.
     put32(reply, 20, figures.largest_free.map_or(0, |size| size - 1));
     put32(reply, 24, figures.used_words);
     put32(reply, 28, figures.used_blocks);
@@ -796,7 +797,7 @@ fn do_pool_statistics(state: &State, transaction: u32, number: u32, image: &[u32
     accepted(after, REPLY_BYTES as u32)
 }
 
-/// The value of a symbol: "a 12-byte reply, APID 786: header like 785's with its own count, unit and transaction, value".
+/// Request A2, the value of a symbol: 12 bytes of reply, with APID 786 and the count of that APID.
 fn do_symbol_value(state: &State, transaction: u32, value: u32, reply: &mut [u8]) -> CommandAnswer {
     put_primary_header(reply, 0, 0, APID_SYMBOL, state.count_786, VALUE_BYTES);
     put16(reply, 6, state.setup.unit * 4_096 + transaction);
@@ -810,7 +811,7 @@ fn do_symbol_value(state: &State, transaction: u32, value: u32, reply: &mut [u8]
 // Request A1: "Many commands in one call"
 // ------------------------------------------------------------------------------------------------------------------------------------
 
-/// "an answer record for each item ...: its number and reply length".
+/// Request A1: what one item gets.
 #[derive(Clone, Copy, PartialEq, Eq, Debug)]
 pub struct ItemAnswer {
     pub number: u32,
@@ -824,13 +825,13 @@ pub struct BatchAnswer {
     pub answers: Vec<ItemAnswer>,
 }
 
-/// "Over 64 items, unequal lists, or an answer list or reply buffer too short refuses the whole call with 3 before any other test".
+/// Request A1: 3 for the batch as a whole, tested first: more than 64 items, starts and lengths of different number, too few records or reply bytes.
 pub fn batch_is_refused(starts: usize, lengths: usize, answers: usize, reply_bytes: usize) -> bool {
     let items = starts;
     starts != lengths || items > BATCH_ITEMS || answers < items || reply_bytes < REPLY_BYTES * items
 }
 
-/// "An item that leaves the buffer is an empty packet." The sum is done in 64 bits.
+/// Request A1: an item with bytes outside the buffer has none at all. The sum is done in 64 bits.
 pub fn item_packet(bytes: &[u8], start: u32, length: u32) -> &[u8] {
     let end = u64::from(start) + u64::from(length);
     if end > bytes.len() as u64 {
@@ -839,8 +840,8 @@ pub fn item_packet(bytes: &[u8], start: u32, length: u32) -> &[u8] {
     &bytes[start as usize..end as usize]
 }
 
-/// "It equals the single calls made in order, refused ones included." "The reply buffer has 32 bytes per item, in the items' order". The call is
-/// not refused; its number is 0. By A2 one symbol table is lent for all items.
+/// Request A1: one command call after the other, each on what the last one left, refused or not. Item i has bytes 32i to 32i + 31 for its reply. The
+/// call is not refused; its number is 0. By A2 one symbol table is lent for all items.
 pub fn batch_call(
     state: &State,
     bytes: &[u8],
@@ -877,7 +878,7 @@ fn slot_refused(state: &State, number: u32) -> SlotAnswer {
     SlotAnswer { number, state: state.clone(), length: 0 }
 }
 
-/// "It serves the first busy place after the last one served, going round 0, 1, 2, 3." The last one itself comes last.
+/// Telemetry slots: busy places take turns. The search begins behind the place of the last turn, goes on at 0 after 3, and ends with that place.
 fn place_to_serve(state: &State) -> Option<(usize, Dump)> {
     for step in 1..=4 {
         let i = (state.last as usize + step) % 4;
@@ -925,7 +926,7 @@ pub fn slot_call(state: &State, tick: u32, image: &[u32], buffer: &mut [u8]) -> 
     after.last = i as u32;
     after.count_788 = (state.count_788 + 1) % 16_384;
     after.places[i] = if words == left {
-        DumpPlace::Idle // "frees the place after the last packet"
+        DumpPlace::Idle // all is sent
     } else {
         DumpPlace::Busy(Dump { sent: dump.sent + words, ..dump })
     };
@@ -936,8 +937,8 @@ pub fn slot_call(state: &State, tick: u32, image: &[u32], buffer: &mut [u8]) -> 
 // "Ground reader and writer"
 // ------------------------------------------------------------------------------------------------------------------------------------
 
-/// The command writer: "3 if shorter than the packet, then 9 ...; nothing is written. Otherwise it writes that packet and leaves later bytes."
-/// Gives the packet's bytes.
+/// The command writer: 3 for a buffer that cannot hold the packet, then 9 for a field out of its bounds. Only the packet's own bytes are written, and
+/// none on a refusal. Gives the packet's bytes.
 pub fn write_command(fields: &Fields, buffer: &mut [u8]) -> Result<usize, u32> {
     let code = code_of(&fields.command);
     let length = packet_bytes_of_code(code).expect("each command has a length");
@@ -966,7 +967,7 @@ pub fn write_command(fields: &Fields, buffer: &mut [u8]) -> Result<usize, u32> {
             put16(packet, 10, *size);
             put32(packet, 12, address.0);
             for k in 0..LOAD_WORDS {
-                // "A load is given eleven words; the unused are written 0."
+                // Words past the load's size go out as 0, whatever was given.
                 let word = if k < *size as usize { data[k] } else { 0 };
                 put32(packet, 16 + 4 * k, word);
             }
@@ -984,7 +985,7 @@ pub fn write_command(fields: &Fields, buffer: &mut [u8]) -> Result<usize, u32> {
     Ok(length)
 }
 
-/// Name size, a zero pad, and the name; "name bytes past the length go as unused load words do".
+/// Name size, a zero pad, and the name. By A2 the rest of the name's field goes out as 0, like a load's unused words.
 fn put_name(packet: &mut [u8], name: &Name) {
     packet[10] = name.size as u8;
     packet[11] = 0;
@@ -993,8 +994,8 @@ fn put_name(packet: &mut [u8], name: &Name) {
     }
 }
 
-/// The command reader: "answers 4, 5, 6, 7, 9 or the fields". Data words of a load beyond its size are ignored: given as 0; and so are the bytes
-/// beyond a name.
+/// The command reader: the fields, or the number that the packet earns without state and symbols. A load's words past its size, and the bytes past a
+/// name, are given as 0.
 pub fn read_command(packet: &[u8]) -> Result<Fields, u32> {
     let number = frame_number(packet);
     if number != 0 {
@@ -1024,7 +1025,7 @@ pub struct PacketFields {
     pub data_words: u32,
 }
 
-/// "4 for under 28 bytes or a wrong version, type, flag or length field". The sequence flags are among the flags: a slot only writes 3.
+/// The packet reader's 4: less than a header, or a header that no slot writes, APID apart. The sequence flags are tested too: a slot only writes 3.
 fn packet_header_is_wrong(packet: &[u8]) -> bool {
     packet.len() < PACKET_HEADER_BYTES
         || version_of(packet) != 0
@@ -1034,12 +1035,12 @@ fn packet_header_is_wrong(packet: &[u8]) -> bool {
         || !length_field_is_right(packet)
 }
 
-/// "the requested range could be a dump (aligned, 1 to 65,535 words, end at most 2^32)".
+/// The packet reader's 9: whether a dump command of some box could ask for this range.
 fn could_be_a_dump(start: Address, words: u32) -> bool {
     aligned(start) && words >= 1 && words <= REQUEST_MOST && end_of(start, words) <= MEMORY_END
 }
 
-/// "this packet is one of its cuts of 1,016": it begins at a multiple of 1,016 words below the request, and has 1,016 words or what is left.
+/// The packet reader's 9: whether slots would cut the request so. A cut begins a multiple of 1,016 words into it, and only the last one may be shorter.
 fn is_a_cut(fields: &PacketFields) -> bool {
     let mut sent = 0;
     while sent < fields.requested_words {
@@ -1053,7 +1054,7 @@ fn is_a_cut(fields: &PacketFields) -> bool {
     false
 }
 
-/// The dump packet reader: the fields and the data part of the caller's own packet.
+/// The dump packet reader: the fields, and the data where they stand in the lent packet.
 pub fn read_packet(packet: &[u8]) -> Result<(PacketFields, &[u8]), u32> {
     if packet_header_is_wrong(packet) {
         return Err(4);

@@ -1,4 +1,4 @@
-//! "Checked examples" E1 to E12 of paper 01, a batch (request A1) and commands by symbol name (request A2), against the model alone.
+//! "Checked examples" E1 to E12 of paper 01, and requests A1 (a batch), A2 (symbol names), A4 (usable words) and A5 (10 and 19), against the model alone.
 use second::model::*;
 
 const BOTH: (bool, bool) = (true, true);
@@ -120,7 +120,7 @@ fn e3_load_command() {
 fn e4_whole_region_and_one_more() {
     let (mut state, mut image) = usual();
     assert_eq!(give(&mut state, &dump(1, 4, 0x1000), &mut image), 0);
-    assert_eq!(give(&mut state, &dump(2, 5, 0x1000), &mut image), 10);
+    assert_eq!(give(&mut state, &dump(2, 5, 0x1000), &mut image), 19);
     assert_eq!(state.refused, 1);
 }
 
@@ -188,7 +188,7 @@ fn e9_top_of_memory() {
     let mut state = started(&[(0xFFFF_FFF0, 4, BOTH)], [(0, 0); 2]);
     let mut image = vec![1, 2, 3, 4];
     assert_eq!(give(&mut state, &dump(1, 1, 0xFFFF_FFFC), &mut image), 0);
-    assert_eq!(give(&mut state, &dump(2, 2, 0xFFFF_FFFC), &mut image), 10);
+    assert_eq!(give(&mut state, &dump(2, 2, 0xFFFF_FFFC), &mut image), 19);
     let (number, packet) = slot(&mut state, 0, &image);
     assert_eq!((number, &packet[28..]), (0, &[0, 0, 0, 4][..]));
 }
@@ -197,7 +197,7 @@ fn e9_top_of_memory() {
 fn e10_touching_regions() {
     let mut state = started(&[(0x1000, 4, BOTH), (0x1010, 4, BOTH)], [(0, 0); 2]);
     let mut image = vec![0; 8];
-    assert_eq!(give(&mut state, &dump(1, 2, 0x100C), &mut image), 10);
+    assert_eq!(give(&mut state, &dump(1, 2, 0x100C), &mut image), 19);
     assert_eq!(give(&mut state, &dump(1, 1, 0x100C), &mut image), 0);
 }
 
@@ -487,7 +487,7 @@ fn a2_order_of_tests() {
     assert_eq!(number(&good, &[]), 18);
     assert_eq!(number(&no_size(&good), &table), 9);
     assert_eq!(number(&changed(good.clone(), 63, 1), &table), 9);
-    assert_eq!(number(&changed(good.clone(), 65, 5), &table), 10);
+    assert_eq!(number(&changed(good.clone(), 65, 5), &table), 19);
     // Code 8 has the pad and no more; 17 and 18 are for it too.
     let value = value_command("AB");
     assert_eq!(number(&changed(value.clone(), 11, 1), &table), 9);
@@ -576,4 +576,86 @@ fn a2_batch() {
     let batch = batch_call(&state, &buffer, &starts, &lengths, &symbols()[1..], &mut image, &mut replies);
     assert!(batch.answers.iter().all(|answer| *answer == ItemAnswer { number: 17, reply_length: 0 }));
     assert_eq!(batch.state, State { refused: 4, ..state });
+}
+
+// ------------------------------------------------------------------------------------------------------------------------------------
+// Request A5
+// ------------------------------------------------------------------------------------------------------------------------------------
+
+fn load(size: u32, address: u32) -> Vec<u8> {
+    packet(0, 1, Command::Load { size, address: Address(address), data: [7; LOAD_WORDS] })
+}
+
+#[test]
+fn a5_how_a_range_missed() {
+    // Two that touch, a gap of eight words, a third; and one that ends at 2^32.
+    let state = started(&[(0x1000, 4, BOTH), (0x1010, 4, BOTH), (0x1040, 4, BOTH), (0xFFFF_FFF0, 4, BOTH)], [(0, 0); 2]);
+    for (address, size, number) in [
+        (0x1000, 5, 19),          // over both
+        (0x1000, 8, 19),
+        (0x1000, 9, 19),
+        (0x100C, 2, 19),
+        (0x1010, 1, 0),           // the second's first word
+        (0x1010, 4, 0),
+        (0x1010, 5, 19),          // into the gap
+        (0x101C, 2, 19),
+        (0x101C, 10, 19),         // through it into the third
+        (0x1020, 1, 10),          // at the second's end
+        (0x1020, 9, 10),
+        (0x103C, 1, 10),
+        (0x103C, 2, 10),          // from the gap into the third
+        (0x103C, 6, 10),          // and out of it again
+        (0x1040, 4, 0),
+        (0x1040, 5, 19),
+        (0x1050, 1, 10),
+        (0x0FFC, 1, 10),
+        (0x0FFC, 2, 10),
+        (0, 1, 10),
+        (0, 65_535, 10),          // over the three
+        (0xFFFF_FFEC, 1, 10),
+        (0xFFFF_FFEC, 2, 10),
+        (0xFFFF_FFEC, 6, 10),     // past 2^32
+        (0xFFFF_FFFC, 1, 0),
+        (0xFFFF_FFFC, 2, 19),
+        (0xFFFF_FFF0, 5, 19),
+        (0xFFFF_FFF0, 65_535, 19),
+    ] {
+        let table = record(0, "at", address);
+        let mut packets = vec![dump(1, size, address), by_name(1, "at", 0, size)];
+        if size <= 11 {
+            packets.push(load(size, address));
+        }
+        for packet in packets {
+            let mut after = state.clone();
+            let code = packet[6];
+            assert_eq!(give_with(&mut after, &packet, &table, &mut [0; 16]), number, "code {code}, {size} at {address:X}");
+            assert_eq!((after.accepted, after.refused), if number == 0 { (1, 0) } else { (0, 1) });
+        }
+    }
+    // An absent pool.
+    let mut after = state.clone();
+    assert_eq!(give(&mut after, &packet(0, 1, Command::PoolStatistics { pool: 0 }), &mut [0; 16]), 10);
+    assert_eq!(after.refused, 1);
+}
+
+#[test]
+fn a5_order_of_tests() {
+    // 19 after 9 and before 11, 12 and 13; its count goes on from 65,535 at 0.
+    let mut state = started(&[(0x1000, 4, (false, false)), (0x1010, 4, BOTH)], [(0, 0); 2]);
+    let mut image = vec![0; 8];
+    assert_eq!(give(&mut state, &raw(0, &bytes("20 01 00 05 00 00 10 02")), &mut image), 9);
+    for packet in [dump(1, 5, 0x1000), load(5, 0x1000)] {
+        assert_eq!(give(&mut state, &packet, &mut image), 19);
+    }
+    for packet in [dump(1, 4, 0x1000), load(4, 0x1000)] {
+        assert_eq!(give(&mut state, &packet, &mut image), 11);
+    }
+    for transaction in 0..4 {
+        assert_eq!(give(&mut state, &dump(transaction, 4, 0x1010), &mut image), 0);
+    }
+    state.refused = 65_535;
+    for (transaction, refused) in [(2, 0), (4, 1)] {
+        assert_eq!(give(&mut state, &dump(transaction, 5, 0x1010), &mut image), 19);
+        assert_eq!(state.refused, refused);
+    }
 }

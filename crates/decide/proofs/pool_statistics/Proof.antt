@@ -9,11 +9,14 @@ use Rattle.decide.proofs.pool_statistics.Tie as tie
 returns : tie.Need-returns
 returns c = rw (eq-eqb _ _ (c .if1 .taken))
 
+enum-told : tie.Need-enum-told
+enum-told c = search needs
+
+enum-told-2 : tie.Need-enum-told-2
+enum-told-2 c = search needs
+
 enum-known-found : tie.Need-enum-known-found
 enum-known-found c = search needs
-
-enum-known-found-2 : tie.Need-enum-known-found-2
-enum-known-found-2 c = search needs
 
 cast-words-at : tie.Need-cast-words-at
 cast-words-at c = search needs
@@ -24,33 +27,38 @@ words-at-requires c κs = search needs
 walk-pool-requires : tie.Need-walk-pool-requires
 walk-pool-requires c κs = search needs
 
-enum-told : tie.Need-enum-told
-enum-told c = search needs
+enum-told-3 : tie.Need-enum-told-3
+enum-told-3 c = search needs
 
 enum-known-walked : tie.Need-enum-known-walked
 enum-known-walked c = search needs
 
 returns-2 : tie.Need-returns-2
-returns-2 c = rw (ne-eqb _ _ (c .before .before .before .if1 .left), c .before .found .given .1)
+returns-2 c = rw (ne-eqb _ _ (c .before .before .if1 .left), c .enum-told .given .1)
 
 returns-3 : tie.Need-returns-3
-returns-3 c = rw (ne-eqb _ _ (c .before .before .before .before .before .before .before .before .before .if1 .left), c .before .before .before .before .before .before .before .found2 .given .1, ← words-cut _ _ _ (c .before .before .before .words-at .ensures), ← c .before .before .walk-pool .ensures, c .enum-told .given .1)
+returns-3 c = rw (ne-eqb _ _ (c .before .before .if1 .left), c .enum-told2 .given .1)
 
 returns-4 : tie.Need-returns-4
-returns-4 c = rw (ne-eqb _ _ (c .before .before .before .before .before .before .before .before .before .before .if1 .left), c .before .before .before .before .before .before .before .before .found2 .given .1, ← words-cut _ _ _ (c .before .before .before .before .words-at .ensures), ← c .before .before .before .walk-pool .ensures, c .before .walked .given .1)
+returns-4 c = rw (ne-eqb _ _ (c .before .before .before .before .before .before .before .before .before .if1 .left), c .before .before .before .before .before .before .before .found .given .1, ← words-cut _ _ _ (c .before .before .before .words-at .ensures), ← c .before .before .walk-pool .ensures, c .enum-told3 .given .1)
+
+returns-5 : tie.Need-returns-5
+returns-5 c = rw (ne-eqb _ _ (c .before .before .before .before .before .before .before .before .before .before .if1 .left), c .before .before .before .before .before .before .before .before .found .given .1, ← words-cut _ _ _ (c .before .before .before .before .words-at .ensures), ← c .before .before .before .walk-pool .ensures, c .before .walked .given .1)
 
 pub pool-statistics-spec : {M : Type 1} → statement M
 pool-statistics-spec =
     tie.close
     (tie.spec
     returns
+    enum-told
+    enum-told-2
     enum-known-found
-    enum-known-found-2
     cast-words-at
     words-at-requires
     walk-pool-requires
-    enum-told
+    enum-told-3
     enum-known-walked
     returns-2
     returns-3
-    returns-4)
+    returns-4
+    returns-5)

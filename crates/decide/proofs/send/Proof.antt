@@ -10,6 +10,12 @@ enum-told c = search needs
 nothing-to-send-requires : tie.Need-nothing-to-send-requires
 nothing-to-send-requires c κs = search needs
 
+enum-told-2 : tie.Need-enum-told-2
+enum-told-2 c = search needs
+
+nothing-to-send-requires-2 : tie.Need-nothing-to-send-requires-2
+nothing-to-send-requires-2 c κs = search needs
+
 enum-known-found : tie.Need-enum-known-found
 enum-known-found c = search needs
 
@@ -32,7 +38,10 @@ returns : tie.Need-returns
 returns c = rw (c .before .enum-told .given .1) (c .nothing-to-send .ensures)
 
 returns-2 : tie.Need-returns-2
-returns-2 c = rw (c .before .before .before .before .before .before .before .before .found .given .1, ← c .before .before .before .before .address-after .ensures, ← c .before .before .before .packet-words .ensures, ← c .before .word-after .ensures, ← c .after-packet .ensures)
+returns-2 c = rw (c .before .enum-told2 .given .1) (c .nothing-to-send2 .ensures)
+
+returns-3 : tie.Need-returns-3
+returns-3 c = rw (c .before .before .before .before .before .before .before .before .found .given .1, ← c .before .before .before .before .address-after .ensures, ← c .before .before .before .packet-words .ensures, ← c .before .word-after .ensures, ← c .after-packet .ensures)
 
 pub send-spec : {M : Type 1} → statement M
 send-spec =
@@ -40,6 +49,8 @@ send-spec =
     (tie.spec
     enum-told
     nothing-to-send-requires
+    enum-told-2
+    nothing-to-send-requires-2
     enum-known-found
     address-after-requires
     packet-words-requires
@@ -47,4 +58,5 @@ send-spec =
     word-after-requires
     after-packet-requires
     returns
-    returns-2)
+    returns-2
+    returns-3)

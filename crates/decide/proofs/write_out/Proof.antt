@@ -81,5 +81,3 @@ write-out-spec =
     returns-5
     same-length-3
     returns-6)
-
--- x

@@ -6,10 +6,10 @@ use Rattle.demo.proofs.pass.Statement.{statement}
 use Rattle.demo.proofs.pass.Tie as tie
 
 abbrev Inv-loop : tie.InvT-loop
-Inv-loop image₀ buffer₀ packet₀ s₀ i₀ image buffer packet s i = i ≤ 11
+Inv-loop image₀ buffer₀ packet₀ s₀ i₀ image buffer packet s i = i ≤ 12
 
 abbrev μ-loop : tie.MeasureT-loop
-μ-loop image₀ buffer₀ packet₀ s₀ i₀ image buffer packet s i = 11 - i
+μ-loop image₀ buffer₀ packet₀ s₀ i₀ image buffer packet s i = 12 - i
 
 start-requires : tie.Need-start-requires Inv-loop μ-loop
 start-requires c κs = search needs

@@ -28,7 +28,7 @@ find-region-requires c κs = search needs
 returns : tie.Need-returns
 returns c =
     let s = c .before .before .before .before in
-    found-in _ (block-is _ (s .pre)) (state-is _ (s .pre)) _ (c .before .word-at .ensures) _ (c .find-region .ensures)
+    found-in _ (block-is _ (s .pre)) (state-is _ (s .pre)) _ (c .before .word-at .ensures) _ (c .find-region .ensures .0)
 
 pub find-spec : {M : Type 1} → statement M
 find-spec =

@@ -76,7 +76,7 @@ returns-2 c =
     let s = c .before .before .before .before .before .before .before .before .before .before .before .before .before .before in
     let t = turn-in _ (block-is _ (s .pre)) _ (c .before .before .before .before .before .before .before .before .before .before .before .word-at .ensures) (c .before .before .before .before .before .before .before .before .before .before .next-turn .ensures) in
     rw (← t, c .before .before .before .before .before .before .before .before .turn .given .1)
-    (sent-on _ (block-is _ (s .pre)) (state-is _ (s .pre)) _ _ (c .before .before .before .before .word-at2 .ensures) (c .before .before .word-at3 .ensures) (c .before .word-at4 .ensures) (c .before .before .before .find-region .ensures) (c .send .ensures))
+    (sent-on _ (block-is _ (s .pre)) (state-is _ (s .pre)) _ _ (c .before .before .before .before .word-at2 .ensures) (c .before .before .word-at3 .ensures) (c .before .word-at4 .ensures) (c .before .before .before .find-region .ensures .0) (c .send .ensures))
 
 pub by-turn-spec : {M : Type 1} → statement M
 by-turn-spec =

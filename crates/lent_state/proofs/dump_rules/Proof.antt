@@ -29,7 +29,7 @@ returns-2 c =
     let start = fields .before .before in
     let a = start .args in
     c .can-dump .ensures
-    ∙ dump-tested (a .rs .now) (start .pre .0) (a .n) (start .pre .1) (a .d) _ (fields .dump-fields .ensures) (else .if1 .left) _ (c .before .find-region .ensures)
+    ∙ dump-tested (a .rs .now) (start .pre .0) (a .n) (start .pre .1) (a .d) _ (fields .dump-fields .ensures) (else .if1 .left) _ (c .before .find-region .ensures .0)
 
 pub dump-rules-spec : {M : Type 1} → statement M
 dump-rules-spec = tie.close (tie.spec dump-fields-requires returns find-region-requires can-dump-requires returns-2)

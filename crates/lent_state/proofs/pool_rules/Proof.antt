@@ -32,7 +32,7 @@ returns-3 c =
     let start = else .before .before .before in
     let a = start .args in
     c .can-dump .ensures
-    ∙ pool-some (a .rs .now) (start .pre .0) (a .n) (start .pre .1) (a .p) (else .if1 .left) (found .before .if2 .left) _ (found .find-region .ensures)
+    ∙ pool-some (a .rs .now) (start .pre .0) (a .n) (start .pre .1) (a .p) (else .if1 .left) (found .before .if2 .left) _ (found .find-region .ensures .0)
 
 pub pool-rules-spec : {M : Type 1} → statement M
 pool-rules-spec = tie.close (tie.spec returns returns-2 find-region-requires can-dump-requires returns-3)

@@ -1,13 +1,13 @@
 -- `regions::search_examples` computes the examples of the search.
 -- Assumes nothing.
 use mathlib.Core.Path.{refl}
-use Rattle.rules.specs.Regions.{tableRules, regionOf}
-use Rattle.regions.specs.Halving.{regionByHalving, compared, candidate, oneLeft, comparisons}
+use Rattle.rules.specs.Regions.{tableRules, wordsBelow, regionOf}
+use Rattle.regions.specs.Halving.{findByHalving, regionByHalving, compared, candidate, oneLeft, comparisons}
 use Rattle.regions.proofs.search_examples.Statement.{statement}
 use Rattle.regions.proofs.search_examples.Tie as tie
 
 returns : tie.Need-returns
-unfolding regionByHalving compared candidate oneLeft comparisons tableRules regionOf
+unfolding findByHalving wordsBelow regionByHalving compared candidate oneLeft comparisons tableRules regionOf
 returns c =
     record {
       whole = refl;
@@ -15,6 +15,9 @@ returns c =
       fewer = refl;
       past = refl;
       outside = refl;
+      found = refl;
+      runs-out = refl;
+      starts-outside = refl;
       with-region-0 = refl;
       with-region-10 = refl;
       with-region-15 = refl;

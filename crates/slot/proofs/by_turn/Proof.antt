@@ -28,7 +28,7 @@ returns c = λ good. rw (← c .before .before .before .next-turn .ensures, c .b
 
 returns-2 : tie.Need-returns-2
 returns-2 c = λ good.
-    let found = found-good _ _ (c .before .find-region .ensures) good in
+    let found = found-good _ _ (c .before .find-region .ensures .0) good in
     rw (← c .before .before .before .before .before .before .before .next-turn .ensures, c .before .before .before .before .before .turn .given .1, ← found)
     (c .send .ensures)
 

@@ -20,7 +20,7 @@ returns c =
     let f = c .before in
     let a = f .before .before .before .args in
     λ h. dump-tested (a .rs) (a .n) (a .d) _ _ (f .before .dump-fields .ensures)
-    (λ one. can-dump-of (a .rs) (a .n) (a .d .range) _ (f .find-region .ensures) _ (c .can-dump .ensures) h one)
+    (λ one. can-dump-of (a .rs) (a .n) (a .d .range) _ (f .find-region .ensures .0) _ (c .can-dump .ensures) h one)
 
 pub dump-rules-spec : {M : Type 1} → statement M
 dump-rules-spec =

@@ -23,7 +23,7 @@ returns-2 c =
     let left = f .before .before .if1 .left in
     let a = f .before .before .before .before .args in
     let some : 1 ≤ a .p .words = omega (arith, left) in
-    λ h. rw (ne-eqb _ _ left, can-dump-of (a .rs) (a .n) (a .p) _ (f .find-region .ensures) _ (c .can-dump .ensures) h some)
+    λ h. rw (ne-eqb _ _ left, can-dump-of (a .rs) (a .n) (a .p) _ (f .find-region .ensures .0) _ (c .can-dump .ensures) h some)
 
 pub pool-rules-spec : {M : Type 1} → statement M
 pool-rules-spec = tie.close (tie.spec returns find-region-requires can-dump-requires returns-2)
