@@ -39,15 +39,17 @@ use Rattle.tasks.specs.Asked.{askedOf}
 use Rattle.pool.specs.Answers.{figuresOf, walkedOf}
 use Rattle.pool.proofs.ReplyBytes.{reply-bytes, reply-fits}
 use Rattle.regions.proofs.Answers.{found-whole}
-use Rattle.decide.specs.Decisions.{lentBy, orderOf, openedAs, openedBy, goodWords, decideWalked, byTask, byOrder, decision, answerOf, imageAfter, replyAfter, stateAfter, carriedOut, Decided}
-use Rattle.decide.specs.declared.Order.{Order}
-use Rattle.decide.specs.declared.Opened.{Opened}
-use Rattle.decide.specs.declared.Opened.the-variants.{Shut, Open}
+use Rattle.opening.specs.Opening.{lentBy, orderOf, openedAs, openedBy, goodWords}
+use Rattle.decide.specs.Decisions.{decideWalked, byTask, byOrder, decision, answerOf, imageAfter, replyAfter, stateAfter, carriedOut, Decided}
+use Rattle.opening.specs.declared.Order.{Order}
+use Rattle.opening.specs.declared.Opened.{Opened}
+use Rattle.opening.specs.declared.Opened.the-variants.{Shut, Open}
 use Rattle.decide.specs.declared.Decision.{Decision}
 use Rattle.decide.specs.declared.Decision.the-variants.{Refuse}
 use Rattle.decide.proofs.Right.{right-there}
-use Rattle.decide.proofs.Rows.{orElse, askedRows, taskRows, command-lowest}
-use Rattle.decide.proofs.Lent.{LentIs, lent-lowest, lent-out, lent-good}
+use Rattle.opening.proofs.Rows.{orElse}
+use Rattle.decide.proofs.Rows.{askedRows, taskRows, command-lowest}
+use Rattle.opening.proofs.Lent.{LentIs, lent-lowest, lent-out, lent-good}
 
 -- THE PLACES
 

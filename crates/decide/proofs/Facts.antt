@@ -1,28 +1,16 @@
--- What the calls that write or cut out words promise, in the words of the decisions.
+-- What the calls that write words and replies promise, in the words of the decisions.
 -- Assumes nothing.
-use mathlib.Core.Path.{_≡_, refl, sym}
-use mathlib.Core.Bool.{Bool, true, false, _&&_, cond}
-use mathlib.Core.List.{List, []}
+use mathlib.Core.Path.{_≡_}
+use mathlib.Core.Bool.{_&&_, cond}
+use mathlib.Core.List.{List}
 use Prim.Native.Nat.{ℕ, _+_, _≤_, _<_}
 use native.Mathlib.Omega.{arith}
 use lib.Dec.{leb}
-use lib.ListN.{length, take, drop}
+use lib.ListN.{length, take}
 use borrow.Author.Tests.{leb-true, leb-false}
 use Rattle.lists.specs.Splice.{splice}
 use Rattle.lists.proofs.Tests.{either}
 use Rattle.rules.specs.Packets.{dataWords}
-use Rattle.rules.specs.declared.DumpPacket.{DumpPacket}
-use Rattle.bulk.specs.DumpBytes.{dumpPacketBytes, PacketFits, packetFits}
-use Rattle.bulk.proofs.Packet.{test-fits, test-fails}
-use Rattle.decide.specs.Decisions.{wordsFrom}
-
--- words cut out of the image
-pub words-cut : (image : List ℕ) (at n : ℕ) {r : List ℕ}
-    → (at + n ≤ length image → r ≡ take n (drop at image)) × ((at + n ≤ length image → ⊥) → r ≡ []) → r ≡ wordsFrom image at n
-words-cut image at n h =
-    either (leb (at + n) (length image))
-    (λ e. rw e (h .0 (leb-true _ _ e)))
-    (λ e. let l = leb-false (at + n) (length image) e in rw e (h .1 (λ k. omega arith)))
 
 -- a load
 pub words-stored : (p image : List ℕ) (at n : ℕ) {r : List ℕ}
@@ -41,12 +29,3 @@ pub reply-put : (n : ℕ) (reply v : List ℕ) {r : List ℕ} → (n ≤ length 
     → r ≡ cond (leb n (length reply)) (splice reply 0 v) reply
 reply-put n reply v h =
     either (leb n (length reply)) (λ e. rw e (h .0 (leb-true _ _ e))) (λ e. rw e (h .1 (leb-false n (length reply) e)))
-
--- a packet
-pub packet-put : (f : DumpPacket) (ws buffer : List ℕ) {r : List ℕ}
-    → (PacketFits f ws buffer → r ≡ splice buffer 0 (dumpPacketBytes f ws)) × ((PacketFits f ws buffer → ⊥) → r ≡ buffer)
-    → r ≡ cond (packetFits f (length ws) (length buffer)) (splice buffer 0 (dumpPacketBytes f ws)) buffer
-packet-put f ws buffer h =
-    either (packetFits f (length ws) (length buffer))
-    (λ e. rw e (h .0 (test-fits f ws buffer {t = true} (sym e) refl)))
-    (λ e. rw e (h .1 (test-fails f ws buffer {t = false} (sym e) refl)))

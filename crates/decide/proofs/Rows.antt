@@ -1,8 +1,7 @@
--- The rows of the two calls' tables, cut where the decisions cut them.
+-- The rows of the command call's table, cut where the decisions cut them.
 -- Assumes nothing.
 use mathlib.Core.Path.{_≡_, refl}
 use mathlib.Core.List.{List, [], _∷_, _++_}
-use Rattle.lists.proofs.Tests.{either}
 use Rattle.rules.specs.Packets.{decode, commandTransaction, nameIn}
 use Rattle.rules.specs.Pools.{replyLength}
 use Rattle.rules.specs.Results.{Row, row, lowest, lentRows}
@@ -11,19 +10,8 @@ use Rattle.rules.specs.declared.Decoded.{Decoded}
 use Rattle.rules.specs.declared.Refusal.the-variants.{BadTable, BadField, UnknownSymbol, OutsideRegions, NoRight, TransactionBusy, PlacesBusy, NotBusy, PoolDamaged, RunsOut}
 use Rattle.rules.specs.declared.State.{State}
 use Rattle.rules.specs.declared.Task.{Task}
-use Rattle.rules.specs.declared.Verdict.{Verdict}
-use Rattle.rules.specs.declared.Verdict.the-variants.{Accepted, Rejected}
 use Rattle.packet.specs.Frame.{frameRows}
-
--- of two runs of rows the first decides, unless none of it applies
-abbrev pub orElse : Verdict → Verdict → Verdict
-orElse (Rejected r) v = Rejected r
-orElse Accepted v = v
-
-pub lowest-join : (xs ys : List Row) → lowest (xs ++ ys) ≡ orElse (lowest xs) (lowest ys)
-unfolding lowest
-lowest-join [] ys = refl
-lowest-join (x ∷ xs) ys = either (x .applies) (λ e. rw e) (λ e. rw e (lowest-join xs ys))
+use Rattle.opening.proofs.Rows.{orElse, lowest-join}
 
 -- 17, 9, 18 and 9 again
 unfoldable pub askedRows : CommandArgs → Decoded → List Row

@@ -4,68 +4,33 @@ use mathlib.Core.Bool.{_&&_, cond}
 use mathlib.Core.List.{List}
 use Prim.Native.Nat.{ℕ, _+_, _%_}
 use lib.Dec.{leb, ltb, eqb}
-use lib.ListN.{length, take, drop}
+use lib.ListN.{length, take}
 use Rattle.lists.specs.Splice.{splice}
-use Rattle.rules.specs.Regions.{imageLength}
-use Rattle.rules.specs.States.{poolAt, goodState}
+use Rattle.rules.specs.States.{poolAt}
 use Rattle.rules.specs.Packets.{dataWords}
 use Rattle.rules.specs.Pools.{blocksOf}
 use Rattle.rules.specs.Results.{counted}
 use Rattle.rules.specs.Values.{valueBytes}
 use Rattle.rules.specs.Commands.{CommandArgs, Outcome, changed, acceptedMore, refusedMore, firstIdle, firstWith, setContext, newDump, commandCall}
-use Rattle.rules.specs.declared.ActiveDump.{ActiveDump}
 use Rattle.rules.specs.declared.Answer.{Answer}
 use Rattle.rules.specs.declared.Answer.the-variants.{Refused, Done}
 use Rattle.rules.specs.declared.Context.the-variants.{Idle, Busy}
 use Rattle.rules.specs.declared.Header.{Header}
 use Rattle.rules.specs.declared.Range.{Range}
-use Rattle.rules.specs.declared.Reading.{Reading}
-use Rattle.rules.specs.declared.Reading.the-variants.{Unread, Read}
-use Rattle.rules.specs.declared.Refusal.{Refusal}
-use Rattle.rules.specs.declared.Refusal.the-variants.{BadState, ImageLength, BufferLength, UnknownCode, OutsideRegions, NoRight, TransactionBusy, PlacesBusy, NotBusy, PoolDamaged, RunsOut}
+use Rattle.rules.specs.declared.Refusal.the-variants.{UnknownCode, OutsideRegions, NoRight, TransactionBusy, PlacesBusy, NotBusy, PoolDamaged, RunsOut}
 use Rattle.rules.specs.declared.State.{State}
 use Rattle.rules.specs.declared.Task.{Task}
 use Rattle.rules.specs.declared.Task.the-variants.{Nothing, DumpRange, CancelDump, LoadRange, CountPool, TellValue}
-use Rattle.rules.specs.declared.Verdict.{Verdict}
-use Rattle.rules.specs.declared.Verdict.the-variants.{Accepted, Rejected}
-use Rattle.packet.specs.Frame.{frameOf}
-use Rattle.tasks.specs.Asked.{askedOf}
-use Rattle.tasks.specs.declared.Sought.{Sought}
-use Rattle.tasks.specs.declared.Sought.the-variants.{Denied, Asked}
 use Rattle.pool.specs.Answers.{walkedOf, figureBytes}
 use Rattle.pool.specs.declared.Walked.{Walked}
 use Rattle.pool.specs.declared.Walked.the-variants.{Damaged, Whole}
-use Rattle.regions.specs.Lookup.{findRegion}
 use Rattle.regions.specs.declared.Found.{Found}
 use Rattle.regions.specs.declared.Found.the-variants.{At, StartsOutside, EndsOutside}
-use Rattle.decide.specs.declared.Opened.{Opened}
-use Rattle.decide.specs.declared.Opened.the-variants.{Shut, Open}
+use Rattle.opening.specs.Opening.{openedBy, goodWords, find, wordsFrom}
+use Rattle.opening.specs.declared.Opened.{Opened}
+use Rattle.opening.specs.declared.Opened.the-variants.{Shut, Open}
 use Rattle.decide.specs.declared.Decision.{Decision}
 use Rattle.decide.specs.declared.Decision.the-variants.{Refuse, Dump as Placed, Cancel as Freed, Load as Stored, Reply, Tell}
-
--- NUMBERS 1 TO 9, 17 AND 18
-
--- 1 to 3, where a good state's image has `words` words and `words` is 0 of a state that is not good
-abbrev pub lentBy : ℕ → ℕ → ℕ → ℕ → Verdict
-lentBy words image size buffer =
-    cond (eqb words 0) (Rejected BadState)
-    (cond (eqb image words) (cond (ltb buffer size) (Rejected BufferLength) Accepted) (Rejected ImageLength))
-
-abbrev pub ordered : ℕ → Sought → Opened
-ordered t (Denied r) = Shut r
-ordered t (Asked k) = Open (record { transaction = t; task = k })
-
--- 9, 17, 18, or what a packet asks for that passed 4 to 8
-abbrev pub orderOf : List ℕ → List ℕ → Reading → Opened
-orderOf symbols p (Unread r) = Shut r
-orderOf symbols p (Read f) = ordered (f .header .transaction) (askedOf symbols p (f .command))
-
-abbrev pub openedAs : Verdict → List ℕ → List ℕ → ℕ → Opened
-openedAs (Rejected r) p symbols unit = Shut r
-openedAs Accepted p symbols unit = orderOf symbols p (frameOf p unit)
-
-abbrev pub openedBy : ℕ → ℕ → ℕ → List ℕ → List ℕ → ℕ → Opened
-openedBy words image reply p symbols unit = openedAs (lentBy words image 32 reply) p symbols unit
 
 -- NUMBERS 10 TO 15, AND 19, by the facts that each command asks for
 
@@ -86,10 +51,6 @@ decideLoad a StartsOutside = Refuse OutsideRegions
 decideLoad a EndsOutside = Refuse RunsOut
 decideLoad a (At spot) = cond (spot .load) (Stored (record { at = spot .index; words = a .words })) (Refuse NoRight)
 
--- the words of the image from an index on, and none where they are not all there
-abbrev pub wordsFrom : List ℕ → ℕ → ℕ → List ℕ
-wordsFrom image at n = cond (leb (at + n) (length image)) (take n (drop at image)) (take 0 image)
-
 abbrev pub decideWalked : Header → ℕ → Walked → Decision
 decideWalked h i Damaged = Refuse PoolDamaged
 decideWalked h i (Whole f) = Reply (record { header = h; pool = i; figures = f })
@@ -103,13 +64,6 @@ abbrev pub decidePool : Header → ℕ → Range → Found → List ℕ → Deci
 decidePool h i pool found image = cond (eqb (pool .words) 0) (Refuse OutsideRegions) (decideFound h i pool found image)
 
 -- THE DECISION, with the facts of a state
-
--- the words of a good state's image, which has at least one; else 0
-unfoldable pub goodWords : State → ℕ
-goodWords s = cond (goodState s) (imageLength (s .regions) (s .count)) 0
-
-abbrev pub find : State → Range → Found
-find s a = findRegion (s .regions) (s .count) a
 
 abbrev pub byTask : State → List ℕ → ℕ → Task → Decision
 byTask s image t Nothing = Refuse UnknownCode

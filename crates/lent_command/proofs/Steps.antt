@@ -39,13 +39,14 @@ use Rattle.block.proofs.Changes.{laws}
 use Rattle.block.proofs.Forth.{block-forth}
 use Rattle.block.proofs.Lengths.{context-words-length}
 use Rattle.block.proofs.Parts.{range-part}
-use Rattle.decide.specs.Decisions.{openedBy, decideDump, decideCancel, decideLoad, wordsFrom, decideWalked, decideFound, decidePool, find, byTask, byOrder, decision, answerOf, imageAfter, replyAfter, stateAfter, carriedOut}
-use Rattle.decide.specs.Decisions as decisions
+use Rattle.opening.specs.Opening.{openedBy, wordsFrom, find}
+use Rattle.decide.specs.Decisions.{decideDump, decideCancel, decideLoad, decideWalked, decideFound, decidePool, byTask, byOrder, decision, answerOf, imageAfter, replyAfter, stateAfter, carriedOut}
+use Rattle.opening.specs.Opening as opening
 use Rattle.decide.specs.declared.Decision.{Decision}
 use Rattle.decide.specs.declared.Decision.the-variants.{Refuse, Dump, Cancel, Load, Reply, Tell}
-use Rattle.decide.specs.declared.Opened.{Opened}
-use Rattle.decide.specs.declared.Opened.the-variants.{Shut, Open}
-use Rattle.decide.specs.declared.Order.{Order}
+use Rattle.opening.specs.declared.Opened.{Opened}
+use Rattle.opening.specs.declared.Opened.the-variants.{Shut, Open}
+use Rattle.opening.specs.declared.Order.{Order}
 use Rattle.decide.proofs.Commands.{decided}
 use Rattle.lent_places.specs.Writing.{placed}
 use Rattle.lent_places.proofs.Answers.{placed-is}
@@ -97,16 +98,16 @@ module _ (b : List ℕ) where
 -- THE DECISION
 
 module _ (b : List ℕ) where
-  words-same : isBlock b ≡ true → goodWords b ≡ decisions.goodWords (stateOf b)
-  unfolding goodWords decisions.goodWords
+  words-same : isBlock b ≡ true → goodWords b ≡ opening.goodWords (stateOf b)
+  unfolding goodWords opening.goodWords
   words-same h = rw h
 
   words-none : isBlock b ≡ false → goodWords b ≡ 0
   unfolding goodWords
   words-none h = rw h
 
-  state-none : goodState (stateOf b) ≡ false → decisions.goodWords (stateOf b) ≡ 0
-  unfolding decisions.goodWords
+  state-none : goodState (stateOf b) ≡ false → opening.goodWords (stateOf b) ≡ 0
+  unfolding opening.goodWords
   state-none g = rw g
 
   unit-is : stateOf b .unit ≡ word b 53
@@ -188,7 +189,7 @@ module _ (s : State) (image : List ℕ) where
 
 low : (s : State) (c : CommandArgs) → Low (decision s c)
 unfolding decision
-low s c = low-order s (c .image) (openedBy (decisions.goodWords s) (length (c .image)) (length (c .reply)) (c .packet) (c .symbols) (s .unit))
+low s c = low-order s (c .image) (openedBy (opening.goodWords s) (length (c .image)) (length (c .reply)) (c .packet) (c .symbols) (s .unit))
 
 -- a word past the places is as it was
 past-places : (b : List ℕ) (i : ℕ) (a : Context) → length b ≡ 80 → i < 4 → word (placed b i a) 77 ≡ word b 77

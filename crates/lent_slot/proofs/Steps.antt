@@ -1,26 +1,22 @@
 -- The slot call on a block: the decision is that on its state, and the words that change are those of the state after.
 -- Assumes nothing.
 use mathlib.Core.Path.{_≡_, refl, sym, ap, subst⁻¹, _∙_}
-use mathlib.Core.Logic.{_≢_}
-use mathlib.Core.Bool.{Bool, true, false, _&&_, cond}
+use mathlib.Core.Bool.{true, false}
 use mathlib.Core.List.{List}
-use Prim.Native.Nat.{ℕ, _+_, _*_, _-_, _%_, _≤_, _<_, min}
+use Prim.Native.Nat.{ℕ, _+_, _*_, _-_, _%_, _≤_, _<_}
 use native.Mathlib.Omega.{arith}
-use lib.Dec.{ltb, eqb}
-use lib.ListN.{length, getD, set, take, drop}
+use lib.ListN.{length, set, take, drop}
 use lib.Seq.{getD-set-other}
 use Rattle.lists.specs.Splice.{splice}
 use Rattle.lists.proofs.Splice.{splice-above}
-use Rattle.lists.proofs.Tests.{either, and-left, and-right, and-both}
-use Rattle.rules.specs.Commands.{Outcome, setContext}
+use Rattle.lists.proofs.Tests.{either}
+use Rattle.rules.specs.Commands.{Outcome}
 use Rattle.rules.specs.Results.{answerNumber, answerLength}
 use Rattle.rules.specs.Slots.{SlotArgs, slotCall, nextPlace}
 use Rattle.rules.specs.States.{contextAt, goodState}
-use Rattle.rules.specs.declared.ActiveDump.{ActiveDump}
 use Rattle.rules.specs.declared.Answer.{Answer}
 use Rattle.rules.specs.declared.Context.{Context}
 use Rattle.rules.specs.declared.Context.the-variants.{Idle, Busy}
-use Rattle.rules.specs.declared.Refusal.{Refusal}
 use Rattle.rules.specs.declared.Refusal.the-variants.{BadState}
 use Rattle.rules.specs.declared.State.{State}
 use Rattle.rules.specs.declared.Verdict.{Verdict}
@@ -30,24 +26,21 @@ use Rattle.rules.proofs.Round.{next-in-four}
 use Rattle.rules.proofs.Rules.{start-out}
 use Rattle.places.specs.Turns.{turnOf, nextTurn}
 use Rattle.places.specs.declared.Seat.{Seat}
-use Rattle.places.specs.declared.Turn.{Turn}
-use Rattle.places.specs.declared.Turn.the-variants.{Nobody, Next}
+use Rattle.places.specs.declared.Turn.the-variants.{Next}
 use Rattle.regions.specs.declared.Found.{Found}
 use Rattle.regions.specs.declared.Found.the-variants.{At, StartsOutside, EndsOutside}
-use Rattle.block.specs.Blocks.{word, regionsIn, contextWords, blockOf, isBlock, stateOf}
+use Rattle.block.specs.Blocks.{word, contextWords, blockOf, isBlock, stateOf}
 use Rattle.block.specs.Calls.{goodWords, onState, lgSlot}
 use Rattle.block.proofs.Bounds.{block-out}
 use Rattle.block.proofs.Changes.{laws}
 use Rattle.block.proofs.Forth.{block-forth}
 use Rattle.block.proofs.Lengths.{context-words-length}
-use Rattle.block.proofs.GoodWords.{not-good, is-block, is-good}
-use Rattle.decide.specs.Decisions.{lentBy, find}
-use Rattle.decide.specs.Decisions as decisions
-use Rattle.decide.specs.Sendings.{decideSend, byTurn, sendingAs, sending, sendAnswer, bufferAfter, stateSent, sentOut}
-use Rattle.decide.specs.declared.Sending.{Sending}
-use Rattle.decide.specs.declared.Sending.the-variants.{Keep, Send}
-use Rattle.decide.proofs.Slots.{slot-decided}
-use Rattle.lent_places.specs.Writing.{placed}
+use Rattle.opening.specs.Opening.{lentBy, find}
+use Rattle.opening.specs.Opening as opening
+use Rattle.sending.specs.Sendings.{decideSend, byTurn, sendingAs, sending, sendAnswer, bufferAfter, stateSent, sentOut}
+use Rattle.sending.specs.declared.Sending.{Sending}
+use Rattle.sending.specs.declared.Sending.the-variants.{Keep, Send}
+use Rattle.sending.proofs.Slots.{slot-decided}
 use Rattle.lent_places.proofs.Answers.{placed-is}
 use Rattle.lent_regions.specs.Finding.{findIn}
 use Rattle.lent_state.proofs.Uses.{found-in}
@@ -78,8 +71,8 @@ module _ (b : List ℕ) (block : isBlock b ≡ true) where
 
 module _ (b : List ℕ) where
   -- the words of its image are those of its state's
-  words-same : isBlock b ≡ true → goodWords b ≡ decisions.goodWords (stateOf b)
-  unfolding goodWords decisions.goodWords
+  words-same : isBlock b ≡ true → goodWords b ≡ opening.goodWords (stateOf b)
+  unfolding goodWords opening.goodWords
   words-same h = rw h
 
   words-none : isBlock b ≡ false → goodWords b ≡ 0
@@ -117,7 +110,7 @@ module _ (s : State) (tick : ℕ) where
 
 low : (s : State) (c : SlotArgs) → Low (sending s c)
 unfolding sending
-low s c = low-lent s (c .tick) (lentBy (decisions.goodWords s) (length (c .image)) 4092 (length (c .buffer)))
+low s c = low-lent s (c .tick) (lentBy (opening.goodWords s) (length (c .image)) 4092 (length (c .buffer)))
 
 module _ (b : List ℕ) (fits : (i : ℕ) → word b i < 4294967296) (block : isBlock b ≡ true) where
   -- the words after a decision are those of the state after it

@@ -6,9 +6,9 @@ use lib.ListN.{set}
 use Rattle.rules.specs.Slots.{SlotArgs}
 use Rattle.rules.specs.declared.Refusal.the-variants.{BadState}
 use Rattle.block.specs.Blocks.{word, stateOf, isBlock}
-use Rattle.decide.specs.Sendings.{sending}
-use Rattle.decide.specs.declared.Sending.{Sending}
-use Rattle.decide.specs.declared.Sending.the-variants.{Keep, Send}
+use Rattle.sending.specs.Sendings.{sending}
+use Rattle.sending.specs.declared.Sending.{Sending}
+use Rattle.sending.specs.declared.Sending.the-variants.{Keep, Send}
 use Rattle.lent_places.specs.Writing.{placed}
 
 -- a block that is no state is refused with 1

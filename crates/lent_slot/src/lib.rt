@@ -8,23 +8,23 @@ ghost use Rattle.rules.specs.States.{goodState};
 ghost use Rattle.block.specs.Blocks.{stateOf, isBlock};
 ghost use Rattle.block.specs.Calls.{lgSlot};
 ghost use Rattle.places.specs.Turns.{nextTurn};
-ghost use Rattle.decide.specs.Sendings.{byTurn};
+ghost use Rattle.sending.specs.Sendings.{byTurn};
 ghost use Rattle.lent_slot.specs.OnBlock.{sendingOn, blockSent};
 use block::raise;
 use block::set_word;
 use block::word_at;
-use decide::Sending;
-use decide::lent_verdict;
-use decide::nothing_to_send;
-use decide::send;
-use decide::send_out;
 use lent_places::next_turn;
 use lent_places::put_context;
 use lent_regions::find_region;
 use lent_state::good_words;
+use opening::lent_verdict;
 use places::Turn;
 use results::hand_over;
 use rules::Verdict;
+use sending::Sending;
+use sending::nothing_to_send;
+use sending::send;
+use sending::send_out;
 
 // The decision on a slot of a good state.
 fn by_turn(b: &[u32], tick: u32) -> Sending

@@ -7,7 +7,7 @@ use Prim.Native.Nat.{ℕ, zero, suc, _≤_}
 use native.Mathlib.Omega.{arith}
 use lib.ListN.{length, take, drop}
 use borrow.Author.Tests.{ltb-false, le-ltb, eqb-true, eq-eqb, not-false}
-use Rattle.lists.proofs.Tests.{either, contra, and-both}
+use Rattle.lists.proofs.Tests.{either, contra}
 use Rattle.rules.specs.Regions.{anyRight, inOneRegion, startsInside, runsOut, imageLength}
 use Rattle.rules.specs.States.{goodState}
 use Rattle.rules.specs.Packets.{wellFormed, decode, nameIn, apidOf, commandUnit, commandTransaction}

@@ -2,18 +2,18 @@
 -- Assumes nothing.
 use mathlib.Core.Path.{_≡_, refl, sym, ap, _∙_}
 use mathlib.Core.Logic.{_≢_, _↔_}
-use mathlib.Core.Bool.{Bool, true, false}
+use mathlib.Core.Bool.{Bool, true}
 use mathlib.Core.List.{List}
 use Prim.Native.Nat.{ℕ, zero, suc, _+_, _*_, _-_, _/_, _%_, _≤_, _<_}
 use native.Mathlib.Omega.{arith}
-use lib.ListN.{getD, take, drop}
+use lib.ListN.{getD, drop}
 use lib.Seq.{getD-take, getD-drop}
 use borrow.Author.Tests.{eqb-true, eq-eqb}
 use Rattle.lists.proofs.Below.{none-of, first-none, sum-more}
 use Rattle.lists.proofs.Tests.{either, contra}
 use Rattle.rules.specs.Regions.{startOf, regionAt, rangeAt, tableRules, anyRight, dumpRight, holds, wordsBelow, imageLength, regionOf, imageIndex, wordsOf}
 use Rattle.rules.specs.States.{poolAt, contextAt, busyWith, goodState}
-use Rattle.rules.specs.GoodWhen.{LiesIn, StartsIn, DumpableIn, Lies, firstWord, GoodPool, Good}
+use Rattle.rules.specs.GoodWhen.{LiesIn, StartsIn, DumpableIn, Lies, GoodPool, Good}
 use Rattle.rules.specs.PlainWords.{WordsInImage, ImageFits, LiesDumpable, PlainWords}
 use Rattle.rules.specs.declared.ActiveDump.{ActiveDump}
 use Rattle.rules.specs.declared.Context.{Context}

@@ -1,15 +1,15 @@
 -- The region table: what it says of a range that lies whole in one region, and where that range is in the image.
 -- Assumes nothing.
-use mathlib.Core.Path.{_≡_, refl, sym, ap, _∙_}
-use mathlib.Core.Bool.{Bool, true, false, _&&_}
-use mathlib.Core.List.{List, [], _∷_}
-use Prim.Native.Nat.{ℕ, zero, suc, _+_, _*_, _-_, _/_, _%_, _<_, _≤_}
+use mathlib.Core.Path.{_≡_, refl, ap}
+use mathlib.Core.Bool.{Bool, true, _&&_}
+use mathlib.Core.List.{List}
+use Prim.Native.Nat.{ℕ, zero, suc, _+_, _-_, _%_, _<_, _≤_}
 use native.Mathlib.Omega.{arith}
-use lib.Dec.{leb, eqb}
-use lib.ListN.{length, take, drop, length-take, length-drop}
+use lib.Dec.{leb}
+use lib.ListN.{length, length-take, length-drop}
 use borrow.Author.Tests.{leb-true, le-leb, eqb-true}
-use Rattle.lists.specs.Below.{allBelow, sumBelow}
-use Rattle.lists.proofs.Tests.{either, contra, and-left, and-right, and-both, by-order}
+use Rattle.lists.specs.Below.{allBelow}
+use Rattle.lists.proofs.Tests.{and-left, and-right, and-both, by-order}
 use Rattle.lists.proofs.Below.{all-at, any-of, any-at, first-found, sum-part}
 use Rattle.rules.specs.Regions.{startOf, endOf, aligned, within, regionAt, rangeAt, endBefore, regionRules, tableRules, anyRight, holds, inOneRegion, firstOf, startsInside, wordsBelow, imageLength, regionOf, indexIn, imageIndex, wordsOf}
 use Rattle.rules.specs.GoodWhen.{LiesIn, StartsIn}

@@ -1,7 +1,6 @@
 -- The numbers and lengths of answers (paper 01, "Result numbers"), each case by name: what else fixes the definitions of Results.antt and
 -- Ground.antt that turn an answer into a number, and the part of an outcome that a call returns.
 use mathlib.Core.Path.{_≡_}
-use Prim.Native.Nat.{ℕ}
 use mathlib.Core.Bool.{true, false}
 use Rattle.rules.specs.Results.{number, counted, verdictNumber, answerNumber, answerLength}
 use Rattle.rules.specs.Commands.{Outcome, returned}

@@ -11,7 +11,7 @@ use Rattle.rules.specs.States.{poolAt, contextAt, busyWith}
 use Rattle.rules.specs.Packets.{wellFormed, apidOf, commandApid, decode, packetLength, nameFits, fieldRules, zeroRules, requested, commandUnit, commandTransaction, dataWords, nameIn}
 use Rattle.rules.specs.Values.{addressFits, addressOf, valueLength, valueBytes}
 use Rattle.symbols.specs.Table.{symbolTable, hasName, valueOf}
-use Rattle.rules.specs.Pools.{Block, Walk, damaged, whole, blocksOf, isDamaged, replyBytes, replyLength}
+use Rattle.rules.specs.Pools.{Walk, damaged, whole, blocksOf, isDamaged, replyBytes, replyLength}
 use Rattle.rules.specs.Results.{counted, Row, row, lowest, lentRows}
 use Rattle.rules.specs.declared.ActiveDump.{ActiveDump}
 use Rattle.rules.specs.declared.Place.{Place}

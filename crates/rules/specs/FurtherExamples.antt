@@ -8,7 +8,7 @@ use Rattle.rules.specs.Regions.{noRange}
 use Rattle.rules.specs.States.{startUp}
 use Rattle.rules.specs.Packets.{commandBytes}
 use Rattle.rules.specs.Commands.{commandCall}
-use Rattle.rules.specs.Results.{answerNumber, answerLength}
+use Rattle.rules.specs.Results.{answerNumber}
 use Rattle.rules.specs.Ground.{writeCommand, readCommand, readingNumber, readPacket}
 use Rattle.rules.specs.Demand3.{Call, events}
 use Rattle.rules.specs.Examples.{range, both, box, fresh, header, dump, load, send, slotAt, numbers, written, four, usual}

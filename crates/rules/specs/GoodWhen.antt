@@ -10,7 +10,6 @@ use Rattle.rules.specs.Regions.{startOf, endOf, regionAt, rangeAt}
 use Rattle.rules.specs.States.{poolAt, contextAt}
 use Rattle.rules.specs.declared.ActiveDump.{ActiveDump}
 use Rattle.rules.specs.declared.Context.the-variants.{Busy}
-use Rattle.rules.specs.declared.Place.{Place}
 use Rattle.rules.specs.declared.Range.{Range}
 use Rattle.rules.specs.declared.Region.{Region}
 use Rattle.rules.specs.declared.State.{State}

@@ -9,12 +9,8 @@ ghost use Rattle.rules.specs.States.{goodState};
 ghost use Rattle.rules.specs.Commands.{returned};
 ghost use Rattle.rules.specs.Slots.{slotCall};
 ghost use Rattle.places.specs.Turns.{nextTurn};
-ghost use Rattle.decide.specs.Sendings.{byTurn, sending, stateSent, PlaceFits};
-use decide::Sending;
-use decide::lent_verdict;
-use decide::nothing_to_send;
-use decide::send;
-use decide::send_out;
+ghost use Rattle.sending.specs.Sendings.{byTurn, sending, stateSent, PlaceFits};
+use opening::lent_verdict;
 use places::Turn;
 use places::next_turn;
 use places::set_context;
@@ -22,6 +18,10 @@ use regions::find_region;
 use rules::Returned;
 use rules::State;
 use rules::Verdict;
+use sending::Sending;
+use sending::nothing_to_send;
+use sending::send;
+use sending::send_out;
 use state::good_words;
 
 // The decision on a slot of a good state.

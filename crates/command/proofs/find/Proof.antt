@@ -1,6 +1,6 @@
 -- `command::find` meets its contract.
 -- Assumes nothing.
-use Rattle.decide.proofs.Lent.{found-good}
+use Rattle.opening.proofs.Lent.{found-good}
 use borrow.Author.Needs.{needs}
 use Rattle.command.proofs.find.Statement.{statement}
 use Rattle.command.proofs.find.Tie as tie

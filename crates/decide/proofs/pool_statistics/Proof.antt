@@ -1,7 +1,7 @@
 -- `decide::pool_statistics` meets its contract.
 -- Assumes nothing.
 use borrow.Author.Tests.{eq-eqb, ne-eqb}
-use Rattle.decide.proofs.Facts.{words-cut}
+use Rattle.opening.proofs.Facts.{words-cut}
 use borrow.Author.Needs.{needs}
 use Rattle.decide.proofs.pool_statistics.Statement.{statement}
 use Rattle.decide.proofs.pool_statistics.Tie as tie

@@ -3,7 +3,7 @@
 use mathlib.Core.Path.{sym, _∙_}
 use Rattle.lists.proofs.Tests.{and-both}
 use Rattle.block.proofs.GoodWords.{is-block, is-good}
-use Rattle.decide.proofs.Lent.{lent-some}
+use Rattle.opening.proofs.Lent.{lent-some}
 use Rattle.lent_slot.proofs.Steps.{sending-on}
 use borrow.Author.Needs.{needs}
 use Rattle.lent_slot.proofs.decide.Statement.{statement}

@@ -1,10 +1,6 @@
 -- `regions::find_region` meets its contract.
 -- Assumes nothing.
 use borrow.Author.Needs.{needs}
-use mathlib.Core.Path.{_≡_}
-use Prim.Native.Nat.{min}
-use Rattle.rules.specs.Regions.{firstOf}
-use Rattle.regions.specs.Halving.{regionByHalving}
 use Rattle.regions.proofs.Answers.{found-exactly}
 use Rattle.regions.proofs.Steps.{found-none, found-short, found-at}
 use Rattle.regions.proofs.find_region.Statement.{statement}

@@ -1,6 +1,6 @@
 -- `slot::by_turn` meets its contract.
 -- Assumes nothing.
-use Rattle.decide.proofs.Lent.{found-good}
+use Rattle.opening.proofs.Lent.{found-good}
 use borrow.Author.Needs.{needs}
 use Rattle.slot.proofs.by_turn.Statement.{statement}
 use Rattle.slot.proofs.by_turn.Tie as tie

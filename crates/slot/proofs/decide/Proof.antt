@@ -1,6 +1,6 @@
 -- `slot::decide` meets its contract.
 -- Assumes nothing.
-use Rattle.decide.proofs.Slots.{step-refused, step-turn}
+use Rattle.sending.proofs.Slots.{step-refused, step-turn}
 use borrow.Author.Needs.{needs}
 use Rattle.slot.proofs.decide.Statement.{statement}
 use Rattle.slot.proofs.decide.Tie as tie

@@ -1,7 +1,7 @@
 -- `slot::slot` meets its contract.
 -- Assumes nothing.
 use mathlib.Core.Path.{refl}
-use Rattle.decide.proofs.Slots.{slot-done}
+use Rattle.sending.proofs.Slots.{slot-done}
 use borrow.Author.Needs.{needs}
 use Rattle.slot.proofs.slot.Statement.{statement}
 use Rattle.slot.proofs.slot.Tie as tie

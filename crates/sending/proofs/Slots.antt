@@ -8,9 +8,8 @@ use native.Mathlib.Omega.{arith}
 use lib.ListN.{length, take, drop, length-take, length-drop}
 use borrow.Author.Tests.{le-leb, eq-eqb}
 use Rattle.lists.specs.Below.{sumBelow}
-use Rattle.lists.specs.Splice.{splice}
 use Rattle.lists.proofs.Tests.{either}
-use Rattle.rules.specs.Regions.{startOf, endOf, rangeAt, tableRules, anyRight, dumpRight, inOneRegion, wordsBelow, imageLength, imageIndex, wordsOf}
+use Rattle.rules.specs.Regions.{startOf, rangeAt, tableRules, anyRight, dumpRight, inOneRegion, wordsBelow, imageLength, imageIndex, wordsOf}
 use Rattle.rules.specs.States.{contextAt, pieceWords, goodState}
 use Rattle.rules.specs.Results.{row, lowest, lentRows}
 use Rattle.rules.specs.Commands.{returned}
@@ -36,13 +35,13 @@ use Rattle.places.specs.Turns.{turnOf, nextTurn}
 use Rattle.regions.proofs.Answers.{found-whole}
 use Rattle.regions.specs.declared.Found.{Found}
 use Rattle.regions.specs.declared.Found.the-variants.{At, StartsOutside, EndsOutside}
-use Rattle.decide.specs.Decisions.{lentBy, goodWords, find}
-use Rattle.decide.specs.Sendings.{decideSend, byTurn, sendingAs, sending, sendAnswer, bufferAfter, stateSent, sentOut, PlaceFits, SlotDecided}
-use Rattle.decide.specs.declared.Sending.{Sending}
-use Rattle.decide.specs.declared.Sending.the-variants.{Keep}
-use Rattle.decide.proofs.Parts.{part-of-part}
-use Rattle.decide.proofs.Rows.{orElse, lowest-join}
-use Rattle.decide.proofs.Lent.{LentIs, lent-lowest, lent-out, lent-good}
+use Rattle.opening.specs.Opening.{lentBy, goodWords, find}
+use Rattle.sending.specs.Sendings.{decideSend, byTurn, sendingAs, sending, sendAnswer, bufferAfter, stateSent, sentOut, PlaceFits, SlotDecided}
+use Rattle.sending.specs.declared.Sending.{Sending}
+use Rattle.sending.specs.declared.Sending.the-variants.{Keep}
+use Rattle.sending.proofs.Parts.{part-of-part}
+use Rattle.opening.proofs.Rows.{orElse, lowest-join}
+use Rattle.opening.proofs.Lent.{LentIs, lent-lowest, lent-out, lent-good}
 
 -- THE IMAGE OF A TABLE BY THE RULES
 

@@ -1,9 +1,9 @@
--- `decide::opened_by` meets its contract.
+-- `opening::opened_by` meets its contract.
 -- Assumes nothing.
 use borrow.Author.Needs.{needs}
 use Rattle.packet.proofs.Steps.{by-frame}
-use Rattle.decide.proofs.opened_by.Statement.{statement}
-use Rattle.decide.proofs.opened_by.Tie as tie
+use Rattle.opening.proofs.opened_by.Statement.{statement}
+use Rattle.opening.proofs.opened_by.Tie as tie
 
 lent-verdict-requires : tie.Need-lent-verdict-requires
 lent-verdict-requires c κs = search needs

@@ -23,7 +23,7 @@ use Rattle.rules.specs.declared.Verdict.the-variants.{Accepted}
 use Rattle.regions.specs.Halving.{findByHalving}
 use Rattle.regions.specs.declared.Found.{Found}
 use Rattle.regions.proofs.Answers.{some-words, found-in-order}
-use Rattle.decide.specs.Decisions.{lentBy, goodWords, find}
+use Rattle.opening.specs.Opening.{lentBy, goodWords, find}
 
 -- what 1 to 3 passed say
 pub record LentIs (s : State) (image : List ℕ) (size : ℕ) (buffer : List ℕ) : Type 0 where

@@ -1,8 +1,8 @@
--- `decide::lent_verdict` meets its contract.
+-- `opening::lent_verdict` meets its contract.
 -- Assumes nothing.
 use borrow.Author.Tests.{eq-eqb, ne-eqb, lt-ltb, le-ltb}
-use Rattle.decide.proofs.lent_verdict.Statement.{statement}
-use Rattle.decide.proofs.lent_verdict.Tie as tie
+use Rattle.opening.proofs.lent_verdict.Statement.{statement}
+use Rattle.opening.proofs.lent_verdict.Tie as tie
 
 returns : tie.Need-returns
 returns c = rw (eq-eqb _ _ (c .if1 .taken))

@@ -21,9 +21,9 @@ use Rattle.places.specs.declared.Turn.{Turn}
 use Rattle.places.specs.declared.Turn.the-variants.{Nobody, Next}
 use Rattle.regions.specs.declared.Found.{Found}
 use Rattle.regions.specs.declared.Found.the-variants.{At, StartsOutside, EndsOutside}
-use Rattle.decide.specs.Decisions.{lentBy, goodWords, find, wordsFrom}
-use Rattle.decide.specs.declared.Sending.{Sending}
-use Rattle.decide.specs.declared.Sending.the-variants.{Keep, Send}
+use Rattle.opening.specs.Opening.{lentBy, goodWords, find, wordsFrom}
+use Rattle.sending.specs.declared.Sending.{Sending}
+use Rattle.sending.specs.declared.Sending.the-variants.{Keep, Send}
 
 -- the next packet of a dump whose range was found; no field is out of its type's bounds, whatever the facts
 abbrev pub decideSend : Seat → Found → ℕ → ℕ → ℕ → Sending

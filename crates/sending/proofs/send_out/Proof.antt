@@ -1,10 +1,11 @@
--- `decide::send_out` meets its contract.
+-- `sending::send_out` meets its contract.
 -- Assumes nothing.
 use mathlib.Core.Path.{refl}
-use Rattle.decide.proofs.Facts.{words-cut, packet-put}
+use Rattle.opening.proofs.Facts.{words-cut}
+use Rattle.sending.proofs.Facts.{packet-put}
 use borrow.Author.Needs.{needs}
-use Rattle.decide.proofs.send_out.Statement.{statement}
-use Rattle.decide.proofs.send_out.Tie as tie
+use Rattle.sending.proofs.send_out.Statement.{statement}
+use Rattle.sending.proofs.send_out.Tie as tie
 
 enum-known-d : tie.Need-enum-known-d
 enum-known-d c = search needs

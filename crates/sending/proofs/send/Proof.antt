@@ -1,8 +1,8 @@
--- `decide::send` meets its contract.
+-- `sending::send` meets its contract.
 -- Assumes nothing.
 use borrow.Author.Needs.{needs}
-use Rattle.decide.proofs.send.Statement.{statement}
-use Rattle.decide.proofs.send.Tie as tie
+use Rattle.sending.proofs.send.Statement.{statement}
+use Rattle.sending.proofs.send.Tie as tie
 
 enum-told : tie.Need-enum-told
 enum-told c = search needs

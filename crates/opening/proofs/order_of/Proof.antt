@@ -1,8 +1,8 @@
--- `decide::order_of` meets its contract.
+-- `opening::order_of` meets its contract.
 -- Assumes nothing.
 use borrow.Author.Needs.{needs}
-use Rattle.decide.proofs.order_of.Statement.{statement}
-use Rattle.decide.proofs.order_of.Tie as tie
+use Rattle.opening.proofs.order_of.Statement.{statement}
+use Rattle.opening.proofs.order_of.Tie as tie
 
 asked-requires : tie.Need-asked-requires
 asked-requires c κs = search needs
