@@ -57,7 +57,7 @@ decideWalked h i (Whole f) = Reply (record { header = h; pool = i; figures = f }
 
 abbrev pub decideFound : Header → ℕ → Range → Found → List ℕ → Decision
 decideFound h i pool StartsOutside image = Refuse OutsideRegions
-decideFound h i pool EndsOutside image = Refuse OutsideRegions
+decideFound h i pool EndsOutside image = Refuse RunsOut
 decideFound h i pool (At spot) image = decideWalked h i (walkedOf (blocksOf (wordsFrom image (spot .index .0) (pool .words))))
 
 abbrev pub decidePool : Header → ℕ → Range → Found → List ℕ → Decision

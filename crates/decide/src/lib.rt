@@ -123,7 +123,7 @@ pub fn pool_statistics(header: Header, i: u16, pool: Range, found: Found, image:
     match found {
         // never: a pool of a good state lies in a region
         Found::StartsOutside => Decision::Refuse(Refusal::OutsideRegions),
-        Found::EndsOutside => Decision::Refuse(Refusal::OutsideRegions),
+        Found::EndsOutside => Decision::Refuse(Refusal::RunsOut),
         Found::At(spot) => {
             let at = spot.index;
             let walked = walk_pool(words_at(image, at, pool.words as usize));

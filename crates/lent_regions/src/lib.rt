@@ -124,8 +124,8 @@ pub fn find_region(rs: &[u32], n: usize, a: Range) -> Found
     let at = below + before;
     let rights = rs[3 * k + 2];
     Found::At(Spot {
-        region: k,
         index: WordIndex(at),
+        region: k as u8,
         load: rights % 2 == 1,
         dump: 2 <= rights,
     })

@@ -14,10 +14,10 @@ use rules::Range;
 use rules::Region;
 use rules::WordIndex;
 
-// Where a range begins: its region's number and rights, and the index in the image of its first word.
+// Where a range begins: the index in the image of its first word, and its region's number and rights.
 pub struct Spot {
-    pub region: usize,
     pub index: WordIndex,
+    pub region: u8,
     pub load: bool,
     pub dump: bool,
 }
@@ -185,8 +185,8 @@ pub fn find_region(rs: [Region; 16], n: usize, a: Range) -> Found
     let before = words_before(r.range.start.0, a.start.0) as usize;
     let at = below + before;
     Found::At(Spot {
-        region: k,
         index: WordIndex(at),
+        region: k as u8,
         load: r.load,
         dump: r.dump,
     })

@@ -103,6 +103,9 @@ mul-rights-2 c = search needs
 shared-slice-read-rights : tie.Need-shared-slice-read-rights
 shared-slice-read-rights c = search needs
 
+cast-t26 : tie.Need-cast-t26
+cast-t26 c = search needs
+
 returns-4 : tie.Need-returns-4
 returns-4 c =
     let q = c .before .before .before .before in
@@ -147,4 +150,5 @@ find-region-spec =
     add-rights
     mul-rights-2
     shared-slice-read-rights
+    cast-t26
     returns-4)

@@ -57,6 +57,9 @@ cast-before c = search needs
 add-at : tie.Need-add-at
 add-at c = search needs
 
+cast-t22 : tie.Need-cast-t22
+cast-t22 c = search needs
+
 returns-3 : tie.Need-returns-3
 returns-3 c =
     let q = c .before .before in
@@ -85,4 +88,5 @@ find-region-spec =
     words-before-requires
     cast-before
     add-at
+    cast-t22
     returns-3)
