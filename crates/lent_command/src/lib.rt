@@ -45,7 +45,7 @@ fn find(b: &[u32], a: Range) -> Found
     requires { ⌜ (isBlock (now b) && goodState (stateOf (now b))) ≡ true ⌝ }
     ensures { λ f. ⌜ f ≡ find (stateOf (now (b .entry))) a ⌝ }
 {
-    find_region(&b[1..49], word_at(b, 0) as usize, a)
+    find_region(&b[1..49], b[0] as usize, a)
 }
 
 // The decision on a task in a good state, by the facts that this task asks for.

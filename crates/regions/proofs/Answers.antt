@@ -4,16 +4,16 @@ use mathlib.Core.Path.{_≡_, refl, sym, ap, _∙_}
 use mathlib.Core.Logic.{_≢_}
 use mathlib.Core.Bool.{Bool, true, false, cond}
 use mathlib.Core.List.{List}
-use Prim.Native.Nat.{ℕ, _+_, min, _≤_}
+use Prim.Native.Nat.{ℕ, _+_, _-_, _/_, min, _≤_}
 use native.Mathlib.Nat.{min-eq-left}
 use native.Mathlib.Omega.{arith}
 use lib.Dec.{leb}
 use borrow.Author.Tests.{leb-true, le-leb}
 use Rattle.lists.proofs.Tests.{either, contra}
 use Rattle.lists.proofs.Below.{sum-part}
-use Rattle.rules.specs.Regions.{endOf, regionAt, rangeAt, tableRules, anyRight, dumpRight, inOneRegion, firstOf, startsInside, wordsBelow, imageLength, regionOf, indexIn}
-use Rattle.rules.specs.GoodWhen.{LiesIn, StartsIn, firstWord, Lies}
-use Rattle.rules.proofs.Located.{words-sum, lies-in}
+use Rattle.rules.specs.Regions.{startOf, endOf, regionAt, rangeAt, tableRules, anyRight, dumpRight, inOneRegion, firstOf, startsInside, wordsBelow, imageLength, regionOf, indexIn}
+use Rattle.rules.specs.GoodWhen.{LiesIn, StartsIn, firstWord}
+use Rattle.rules.proofs.Located.{words-sum}
 use Rattle.regions.specs.declared.Spot.{Spot}
 use Rattle.rules.proofs.Table.{table-count, table-region, region-holds, holds-unique, one-out, one-in, one-any, holds-any, starts-out, starts-in, starts-there}
 use Rattle.rules.specs.declared.Range.{Range}
@@ -90,13 +90,15 @@ module _ (rs : List Region) (n : ℕ) (a : Range) (rules : tableRules rs n ≡ t
   not-held i l h = contra (le-leb _ _ (h .to)) l
 
   -- the spot field by field
-  spot-plain : (i offset : ℕ) → Lies rs n a i offset
-      → spotIn rs a i ≡ record { region = i; index = record { 0 = firstWord rs i + offset }; load = regionAt rs i .load; dump = regionAt rs i .dump }
-  spot-plain i offset l =
-      let e = l .from in
-      let w = words-sum rs i in
-      let x : indexIn rs a i ≡ firstWord rs i + offset = omega arith in
-      ap (λ (k : ℕ). record { region = i; index = record { 0 = k }; load = regionAt rs i .load; dump = regionAt rs i .dump }) x
+  spot-plain : (i : ℕ)
+      → spotIn rs a i
+      ≡ record {
+        region = i;
+        index = record { 0 = firstWord rs i + (startOf a - startOf (rangeAt rs i)) / 4 };
+        load = regionAt rs i .load;
+        dump = regionAt rs i .dump;
+      }
+  spot-plain i = rw (words-sum rs i)
 
   when-whole : (i : ℕ) → StartsIn rs n a i → LiesIn anyRight rs n a i → FoundWhen rs n a (At (spotIn rs a i))
   when-whole i h l =
@@ -104,7 +106,7 @@ module _ (rs : List Region) (n : ℕ) (a : Range) (rules : tableRules rs n ≡ t
         outside = (λ e. absurd (omega arith), λ f. absurd (f i h));
         runs-out = (λ e. absurd (omega arith), λ (j, k, m). absurd (m (rw (one-start j i k h) l)));
         found = (λ e. (i, h, l), λ q. refl);
-        spot = λ j o k m. ap (λ x. At (spotIn rs a x)) (one-start i j h k) ∙ ap (λ (x : Spot). At x) (spot-plain j o m);
+        spot = λ j k m. ap (λ x. At (spotIn rs a x)) (one-start i j h k) ∙ ap (λ (x : Spot). At x) (spot-plain j);
       }
 
   when-short : (i : ℕ) → StartsIn rs n a i → (LiesIn anyRight rs n a i → ⊥) → FoundWhen rs n a EndsOutside
@@ -113,7 +115,7 @@ module _ (rs : List Region) (n : ℕ) (a : Range) (rules : tableRules rs n ≡ t
         outside = (λ e. absurd (omega arith), λ f. absurd (f i h));
         runs-out = (λ e. (i, h, l), λ q. refl);
         found = (λ e. absurd (omega arith), λ (j, k, m). absurd (l (rw (one-start i j h k) m)));
-        spot = λ j o k m. absurd (l (rw (one-start i j h k) (lies-in rs n a j o m)));
+        spot = λ j k m. absurd (l (rw (one-start i j h k) m));
       }
 
   when-none : ((i : ℕ) → StartsIn rs n a i → ⊥) → FoundWhen rs n a StartsOutside
@@ -122,7 +124,7 @@ module _ (rs : List Region) (n : ℕ) (a : Range) (rules : tableRules rs n ≡ t
         outside = (λ e. f, λ g. refl);
         runs-out = (λ e. absurd (omega arith), λ (j, k, m). absurd (f j k));
         found = (λ e. absurd (omega arith), λ (j, k, m). absurd (f j k));
-        spot = λ j o k m. absurd (f j k);
+        spot = λ j k m. absurd (f j k);
       }
 
   found-when : FoundWhen rs n a (findRegion rs n a)

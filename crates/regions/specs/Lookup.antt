@@ -3,11 +3,11 @@ use mathlib.Core.Path.{_≡_}
 use mathlib.Core.Logic.{_↔_}
 use mathlib.Core.Bool.{Bool, true, false, _&&_, cond}
 use mathlib.Core.List.{List}
-use Prim.Native.Nat.{ℕ, _+_, _*_, _%_}
+use Prim.Native.Nat.{ℕ, _+_, _*_, _-_, _/_, _%_}
 use lib.Dec.{leb, eqb}
 use lib.ListN.{getD}
 use Rattle.rules.specs.Regions.{endOf, regionAt, rangeAt, tableRules, firstOf, startsInside, imageLength, regionOf, indexIn}
-use Rattle.rules.specs.GoodWhen.{LiesIn, StartsIn, firstWord, Lies}
+use Rattle.rules.specs.GoodWhen.{LiesIn, StartsIn, firstWord}
 use Rattle.rules.specs.PlainWords.{emptyRegion}
 use Rattle.rules.specs.declared.Range.{Range}
 use Rattle.rules.specs.declared.Region.{Region}
@@ -63,13 +63,13 @@ pub record FoundWhen (rs : List Region) (n : ℕ) (a : Range) (f : Found) : Type
   pub runs-out : (foundNumber f ≡ 19) ↔ ((i : ℕ) × StartsIn rs n a i × (LiesIn (λ (g : Region). true) rs n a i → ⊥))
   -- 0: one does, and it holds the range whole
   pub found : (foundNumber f ≡ 0) ↔ ((i : ℕ) × StartsIn rs n a i × LiesIn (λ (g : Region). true) rs n a i)
-  -- then the region's number, the index of the range's first word, which is word `offset` of that region, and the region's rights
-  pub spot : (i offset : ℕ) → StartsIn rs n a i → Lies rs n a i offset
+  -- then the region's number and rights, and the index of the range's first word: after the words of the regions before, and those of this region before it
+  pub spot : (i : ℕ) → StartsIn rs n a i → LiesIn (λ (g : Region). true) rs n a i
       → f
       ≡ At
       (record {
         region = i;
-        index = record { 0 = firstWord rs i + offset };
+        index = record { 0 = firstWord rs i + (a .start .0 - getD rs i emptyRegion .range .start .0) / 4 };
         load = getD rs i emptyRegion .load;
         dump = getD rs i emptyRegion .dump;
       })

@@ -50,6 +50,19 @@ none-words : (rs : List Region) → imageLength rs 0 ≡ 0
 unfolding wordsBelow
 none-words rs = refl
 
+each-word-in : (right : Region → Bool) (rs : List Region) (n : ℕ) (a : Range) (i : ℕ) → 1 ≤ a .words
+    → LiesIn right rs n a i
+    ↔ (((k : ℕ) → k < a .words → StartsIn rs n (record { start = record { 0 = startOf a + 4 * k }; words = 1 }) i) × (right (regionAt rs i) ≡ true))
+each-word-in right rs n a i one = (
+  λ l. (λ k m. let f = l .from in let t = l .to in record { in-use = l .in-use; from = omega arith; word = omega arith }, l .allowed),
+  λ (w, r).
+      let first = w 0 one in
+      let last = w (a .words - 1) (omega arith) in
+      let f = first .from in
+      let t = last .word in
+      record { in-use = first .in-use; from = omega arith; to = omega arith; allowed = r },
+)
+
 lies-both : (right : Region → Bool) (rs : List Region) (n : ℕ) (a : Range) (i : ℕ) → startOf a % 4 ≡ 0 → startOf (rangeAt rs i) % 4 ≡ 0
     → LiesIn right rs n a i ↔ ((offset : ℕ) × Lies rs n a i offset × (right (regionAt rs i) ≡ true))
 lies-both right rs n a i e m = (
@@ -112,6 +125,8 @@ plain-words =
       image-none = none-words;
       image-more = more-words;
       region-first = λ rs i. sym (words-sum rs i);
+      each-word = each-word-in;
+      lies = λ rs n a i offset. (λ l. (l .in-use, l .from, l .to), λ (u, f, t). record { in-use = u; from = f; to = t });
       lies-when = lies-both;
       first = λ a. refl;
       starts-when = starts-both;

@@ -53,7 +53,15 @@ pub record PlainWords : Type 0 where
   pub image-none : (rs : List Region) → imageLength rs 0 ≡ 0
   pub image-more : (rs : List Region) (n : ℕ) → imageLength rs (n + 1) ≡ imageLength rs n + getD rs n emptyRegion .range .words
   pub region-first : (rs : List Region) (i : ℕ) → firstWord rs i ≡ imageLength rs i
-  -- where a range lies whole in a region by its start and end, it lies there by words, and the other way round: ranges of any size
+  -- A range of a word or more lies whole in a region exactly if that region holds each of its words.
+  pub each-word : (right : Region → Bool) (rs : List Region) (n : ℕ) (a : Range) (i : ℕ) → 1 ≤ a .words
+      → LiesIn right rs n a i
+      ↔ (((k : ℕ) → k < a .words → StartsIn rs n (record { start = record { 0 = a .start .0 + 4 * k }; words = 1 }) i) × (right (getD rs i emptyRegion) ≡ true))
+  -- by its numbers: from word `offset` of the region on, in ranges of any size
+  pub lies : (rs : List Region) (n : ℕ) (a : Range) (i offset : ℕ)
+      → Lies rs n a i offset
+      ↔ ((i < n) × (a .start .0 ≡ getD rs i emptyRegion .range .start .0 + 4 * offset) × (offset + a .words ≤ getD rs i emptyRegion .range .words))
+  -- where a range lies whole in a region by its start and end, it lies there by words, and the other way round
   pub lies-when : (right : Region → Bool) (rs : List Region) (n : ℕ) (a : Range) (i : ℕ) → a .start .0 % 4 ≡ 0
       → getD rs i emptyRegion .range .start .0 % 4 ≡ 0
       → LiesIn right rs n a i ↔ ((offset : ℕ) × Lies rs n a i offset × (right (getD rs i emptyRegion) ≡ true))

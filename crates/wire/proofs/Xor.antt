@@ -121,6 +121,32 @@ module _ (a b c d : ℕ) where
       ∙ xor-turn s (i + 1) x₁ (omega arith)
       ∙ xor-turn s i lanes (omega arith)
 
+-- eight in one: four, and the next four
+module _ (a b c d e f g h : ℕ) where
+  abbrev pub eight-lanes : ℕ
+  eight-lanes = bitXor (lanes a b c d) (lanes e f g h)
+
+  pub eight-turns : (s : List ℕ) (i : ℕ) → i + 8 ≤ length s
+      → bitXor
+      (bitXor (lanes (bitXor a (getD s i 0)) (bitXor b (getD s (i + 1) 0)) (bitXor c (getD s (i + 2) 0)) (bitXor d (getD s (i + 3) 0)))
+      (lanes (bitXor e (getD s (i + 4) 0)) (bitXor f (getD s (i + 5) 0)) (bitXor g (getD s (i + 6) 0)) (bitXor h (getD s (i + 7) 0))))
+      (xorAll (drop (i + 8) s))
+      ≡ bitXor eight-lanes (xorAll (drop i s))
+  eight-turns s i l =
+      let e₅ : i + 4 + 1 ≡ i + 5 = omega arith in
+      let e₆ : i + 4 + 2 ≡ i + 6 = omega arith in
+      let e₇ : i + 4 + 3 ≡ i + 7 = omega arith in
+      let e₈ : i + 4 + 4 ≡ i + 8 = omega arith in
+      let first = four-turns a b c d s i (omega arith) in
+      let second = rw (e₅, e₆, e₇, e₈) at (four-turns e f g h s (i + 4) (omega arith)) in
+      let x = lanes (bitXor a (getD s i 0)) (bitXor b (getD s (i + 1) 0)) (bitXor c (getD s (i + 2) 0)) (bitXor d (getD s (i + 3) 0)) in
+      xor-assoc x _ _
+      ∙ ap (bitXor x) second
+      ∙ xor-left-comm x (lanes e f g h) (xorAll (drop (i + 4) s))
+      ∙ ap (bitXor (lanes e f g h)) first
+      ∙ xor-left-comm (lanes e f g h) (lanes a b c d) (xorAll (drop i s))
+      ∙ sym (xor-assoc (lanes a b c d) (lanes e f g h) (xorAll (drop i s)))
+
 pub xor-joined : (u v : List ℕ) → xorAll (u ++ v) ≡ bitXor (xorAll u) (xorAll v)
 unfolding xorAll
 xor-joined [] v = sym (xor-zero-l (xorAll v))

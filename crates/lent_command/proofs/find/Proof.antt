@@ -1,9 +1,10 @@
 -- `lent_command::find` meets its contract.
 -- Assumes nothing.
+use borrow.Author.Needs.{needs}
+use mathlib.Core.Path.{refl}
 use native.Mathlib.Omega.{arith}
 use Rattle.block.proofs.GoodWords.{block-is, state-is, block-words}
 use Rattle.lent_state.proofs.Uses.{found-in}
-use borrow.Author.Needs.{needs}
 use Rattle.lent_command.proofs.find.Statement.{statement}
 use Rattle.lent_command.proofs.find.Tie as tie
 
@@ -16,11 +17,11 @@ part-find-region-start c = search needs
 part-find-region-end : tie.Need-part-find-region-end
 part-find-region-end c = let n = block-words _ (c .before .pre) in omega arith
 
-word-at-requires : tie.Need-word-at-requires
-word-at-requires c κs = search needs
+shared-slice-read-find-region : tie.Need-shared-slice-read-find-region
+shared-slice-read-find-region c = let n = block-words _ (c .before .before .before .pre) in omega arith
 
 cast-find-region : tie.Need-cast-find-region
-cast-find-region c = search needs
+cast-find-region c = omega (arith, c .shared-slice-known2 .given 0)
 
 find-region-requires : tie.Need-find-region-requires
 find-region-requires c κs = search needs
@@ -28,7 +29,7 @@ find-region-requires c κs = search needs
 returns : tie.Need-returns
 returns c =
     let s = c .before .before .before .before in
-    found-in _ (block-is _ (s .pre)) (state-is _ (s .pre)) _ (c .before .word-at .ensures) _ (c .find-region .ensures .0)
+    found-in _ (block-is _ (s .pre)) (state-is _ (s .pre)) _ refl _ (c .find-region .ensures .0)
 
 pub find-spec : {M : Type 1} → statement M
 find-spec =
@@ -37,7 +38,7 @@ find-spec =
     sub-find-region
     part-find-region-start
     part-find-region-end
-    word-at-requires
+    shared-slice-read-find-region
     cast-find-region
     find-region-requires
     returns)
