@@ -1,4 +1,4 @@
-/* The seven calls of leatgarnet.h by hand, from papers 01 and 02 (A1 to A5) and the header: the yardstick for speed. It does every check that they
+/* The eight calls of leatgarnet.h by hand, from papers 01 and 02 (A1 to A6) and the header: the yardstick for speed. It does every check that they
  * ask for, and works on the lent block as it stands. Compiled twice, with -DPREFIX=gcc_ and -DPREFIX=clang_. For little-endian machines. */
 #include "baseline.h"
 #include <string.h>
@@ -11,7 +11,7 @@ enum { STATE_WORDS = 80, TABLE_WORDS = 54, COMMAND_WORDS = 21, PACKET_WORDS = 8 
 enum { REGIONS = 1, POOLS = 49, UNIT = 53, PLACES = 54, LAST = 74, COUNT_785 = 75, COUNT_788 = 76, ACCEPTED = 77, REFUSED = 78,
        COUNT_786 = 79 };
 enum { BUSY, TRANSACTION, START, WORDS, SENT, PLACE_WORDS };
-enum { LOAD_RIGHT = 1, DUMP_RIGHT = 2, CUT = 1016, LOAD_WORDS = 11, REPLY_BYTES = 32, HEADER_BYTES = 28, SLOT_BYTES = 4092, ITEMS = 64 };
+enum { LOAD_RIGHT = 1, DUMP_RIGHT = 2, CUT = 1016, LOAD_WORDS = 11, REPLY_BYTES = 32, HEADER_BYTES = 28, SLOT_BYTES = 4092, ITEMS = 64, PACKETS = 65 };
 enum { SYMBOLS = 256, SYMBOL_BYTES = 56, NAME_BYTES = 48, NAME_WORDS = 12, VALUE_BYTES = 12 };
 enum { CODE_DUMP = 0, CODE_CANCEL = 1, CODE_LOAD = 4, CODE_POOL = 7, CODE_VALUE = 8, CODE_BY_NAME = 9 };
 
@@ -595,12 +595,9 @@ uint32_t CALL(read_command)(const uint8_t *restrict packet, size_t packet_bytes,
     return 0;
 }
 
-uint32_t CALL(read_packet)(const uint8_t *restrict packet, size_t packet_bytes, uint32_t *restrict fields, size_t fields_words,
-                           uint32_t *restrict data_bytes)
+/* The number that the dump packet reader gives a packet. */
+static inline uint32_t packet_number(const uint8_t *packet, size_t packet_bytes)
 {
-    *data_bytes = 0;
-    if (fields_words != PACKET_WORDS)
-        return 3;
     if (packet_bytes < HEADER_BYTES)
         return 4;
     uint32_t first = get16(packet), start = get32(packet + 12), asked = get32(packet + 16), here = get32(packet + 20);
@@ -616,14 +613,57 @@ uint32_t CALL(read_packet)(const uint8_t *restrict packet, size_t packet_bytes, 
         return 9;
     if (sent >= asked || sent % CUT != 0 || words != (asked - sent < CUT ? asked - sent : CUT))
         return 9;
+    return 0;
+}
+
+uint32_t CALL(read_packet)(const uint8_t *restrict packet, size_t packet_bytes, uint32_t *restrict fields, size_t fields_words,
+                           uint32_t *restrict data_bytes)
+{
+    *data_bytes = 0;
+    if (fields_words != PACKET_WORDS)
+        return 3;
+    uint32_t number = packet_number(packet, packet_bytes);
+    if (number != 0)
+        return number;
     fields[0] = get16(packet + 2) & 0x3FFF;
     fields[1] = packet[6] >> 4;
     fields[2] = get16(packet + 6) & 0xFFF;
-    fields[3] = get32(packet + 8);
-    fields[4] = start;
-    fields[5] = asked;
-    fields[6] = here;
-    fields[7] = words;
+    for (uint32_t i = 3; i < PACKET_WORDS; i++)
+        fields[i] = get32(packet + 4 * i - 4);
     *data_bytes = (uint32_t)packet_bytes - HEADER_BYTES;
+    return 0;
+}
+
+/* A bit for each piece that a packet before had. */
+uint32_t CALL(check_dump)(const uint8_t *restrict bytes, size_t bytes_length, const uint8_t *restrict lengths, size_t lengths_bytes)
+{
+    uint64_t seen[(PACKETS + 63) / 64] = { 0 };
+    size_t count = lengths_bytes / 2;
+    uint32_t all = 0;
+    if (lengths_bytes % 2 != 0 || count > PACKETS)
+        return 3;
+    for (size_t i = 0; i < count; i++)
+        all += get16(lengths + 2 * i);
+    if (all < bytes_length)
+        return 3;
+    if (count == 0)
+        return 131072;
+    const uint8_t *packet = bytes;
+    for (size_t i = 0; i < count; i++) {
+        size_t length = get16(lengths + 2 * i), left = bytes_length - (size_t)(packet - bytes);
+        if (length > left || packet_number(packet, length) != 0)
+            return 65536 + (uint32_t)i;
+        if (memcmp(packet + 6, bytes + 6, 2) != 0 || memcmp(packet + 12, bytes + 12, 8) != 0)
+            return 65536 + (uint32_t)i;
+        uint32_t piece = (get32(packet + 20) - get32(packet + 12)) / (4 * CUT);
+        if (seen[piece / 64] >> piece % 64 & 1)
+            return 65536 + (uint32_t)i;
+        seen[piece / 64] |= (uint64_t)1 << piece % 64;
+        packet += length;
+    }
+    uint32_t pieces = (get32(bytes + 16) + CUT - 1) / CUT;
+    for (uint32_t k = 0; k < pieces; k++)
+        if (!(seen[k / 64] >> k % 64 & 1))
+            return 131072 + k;
     return 0;
 }

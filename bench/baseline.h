@@ -1,4 +1,4 @@
-/* The yardstick: the seven calls of leatgarnet.h by hand in C, with the same arguments and answers, once by gcc and once by clang. */
+/* The yardstick: the eight calls of leatgarnet.h by hand in C, with the same arguments and answers, once by gcc and once by clang. */
 #ifndef BASELINE_H
 #define BASELINE_H
 #include "../c/leatgarnet.h" /* for struct lg_answer */
@@ -21,7 +21,8 @@
                               uint32_t *restrict length); \
     uint32_t P##read_command(const uint8_t *restrict packet, size_t packet_bytes, uint32_t *restrict command, size_t command_words); \
     uint32_t P##read_packet(const uint8_t *restrict packet, size_t packet_bytes, uint32_t *restrict fields, size_t fields_words, \
-                            uint32_t *restrict data_bytes);
+                            uint32_t *restrict data_bytes); \
+    uint32_t P##check_dump(const uint8_t *restrict bytes, size_t bytes_length, const uint8_t *restrict lengths, size_t lengths_bytes);
 
 BASELINE(gcc_)
 BASELINE(clang_)

@@ -1,4 +1,4 @@
-/* The speed of the library beside the same seven calls by hand in C (baseline.c), by gcc and by clang: one program, one run, the same inputs.
+/* The speed of the library beside the same eight calls by hand in C (baseline.c), by gcc and by clang: one program, one run, the same inputs.
  * First the three must agree on every case and on random changes of it; then they are timed in turns. See bench/run. */
 #include "../c/leatgarnet.h"
 #include "baseline.h"
@@ -9,8 +9,8 @@
 #include <ucontext.h>
 
 enum { OURS, GCC, CLANG, EMPTY, LIBRARIES };
-enum kind { START_UP, COMMAND, BATCH, SLOT, WRITE, READ, READ_PACKET, SINGLES }; /* SINGLES: the items of a batch by single calls */
-enum { UNIT = 2, POOL_WORDS = 1 << 20, IMAGE_WORDS = POOL_WORDS + 65536, BUFFER_BYTES = 4096, ROUNDS = 41, SMOKE_ROUNDS = 3, MAX_CASES = 80,
+enum kind { START_UP, COMMAND, BATCH, SLOT, WRITE, READ, READ_PACKET, CHECK_DUMP, SINGLES }; /* SINGLES: the items of a batch by single calls */
+enum { UNIT = 2, POOL_WORDS = 1 << 20, IMAGE_WORDS = POOL_WORDS + 65536, BUFFER_BYTES = 4096, ROUNDS = 41, SMOKE_ROUNDS = 3, MAX_CASES = 100,
        MAX_ITEMS = LG_BATCH_ITEMS + 2, SYMBOLS = 256 };
 enum { S_POOLS = 49, S_PLACES = 54, S_LAST = 74 };
 
@@ -24,6 +24,7 @@ struct library {
     uint32_t (*write_command)(const uint32_t *, size_t, uint8_t *, size_t, uint32_t *);
     uint32_t (*read_command)(const uint8_t *, size_t, uint32_t *, size_t);
     uint32_t (*read_packet)(const uint8_t *, size_t, uint32_t *, size_t, uint32_t *);
+    uint32_t (*check_dump)(const uint8_t *, size_t, const uint8_t *, size_t);
 };
 
 /* Calls that do nothing: the loop, the restored words and the call itself. Their time is taken off all three. */
@@ -40,16 +41,20 @@ static uint32_t no_slot(U uint32_t *s, U size_t n, U uint32_t t, U const uint32_
 static uint32_t no_write(U const uint32_t *c, U size_t n, U uint8_t *b, U size_t l, U uint32_t *x) NOTHING
 static uint32_t no_read(U const uint8_t *p, U size_t b, U uint32_t *c, U size_t n) NOTHING
 static uint32_t no_read_packet(U const uint8_t *p, U size_t b, U uint32_t *f, U size_t n, U uint32_t *x) NOTHING
+static uint32_t no_check_dump(U const uint8_t *p, U size_t b, U const uint8_t *l, U size_t n) NOTHING
 
 static const struct library libraries[LIBRARIES] = {
-    { "ours", lg_start_up, lg_command, lg_commands, lg_slot, lg_write_command, lg_read_command, lg_read_packet },
-    { "gcc", gcc_start_up, gcc_command, gcc_commands, gcc_slot, gcc_write_command, gcc_read_command, gcc_read_packet },
-    { "clang", clang_start_up, clang_command, clang_commands, clang_slot, clang_write_command, clang_read_command, clang_read_packet },
-    { "empty", no_start_up, no_command, no_commands, no_slot, no_write, no_read, no_read_packet },
+    { "ours", lg_start_up, lg_command, lg_commands, lg_slot, lg_write_command, lg_read_command, lg_read_packet,
+      lg_check_dump },
+    { "gcc", gcc_start_up, gcc_command, gcc_commands, gcc_slot, gcc_write_command, gcc_read_command, gcc_read_packet,
+      gcc_check_dump },
+    { "clang", clang_start_up, clang_command, clang_commands, clang_slot, clang_write_command, clang_read_command, clang_read_packet,
+      clang_check_dump },
+    { "empty", no_start_up, no_command, no_commands, no_slot, no_write, no_read, no_read_packet, no_check_dump },
 };
 
 /* What a case hands in. `words` is the table, command or field block of the calls that have one; `buffer` the reply or packet buffer; a batch's bytes
- * are in `packet`. */
+ * are in `packet`. A dump to check is in the image, and its list of lengths in `packet`. */
 struct input {
     uint32_t state[LG_STATE_WORDS], words[LG_TABLE_WORDS], starts[MAX_ITEMS], lengths[MAX_ITEMS];
     uint8_t packet[BUFFER_BYTES], symbols[LG_SYMBOL_BYTES * SYMBOLS];
@@ -329,6 +334,56 @@ static struct test *full_slot_case(const char *name, uint32_t regions, double bo
     return t;
 }
 
+static uint32_t get32(const uint8_t *p)
+{
+    return (uint32_t)p[0] << 24 | (uint32_t)p[1] << 16 | (uint32_t)p[2] << 8 | p[3];
+}
+
+static void put32(uint8_t *p, uint32_t v)
+{
+    for (int k = 0; k < 4; k++)
+        p[k] = (uint8_t)(v >> (24 - 8 * k));
+}
+
+/* The packets of a dump of `words` words, back to back in the image, each `step` pieces after the one before, going round. */
+static void put_packets(uint32_t words, uint32_t step)
+{
+    uint32_t pieces = (words + 1015) / 1016;
+    uint8_t *p = (uint8_t *)image;
+    for (uint32_t i = 0; i < pieces; i++) {
+        uint32_t piece = i * step % pieces, left = words - 1016 * piece, n = left < 1016 ? left : 1016;
+        const uint32_t fields[7] = { 0x0314C000 + i, (21 + 4 * n) << 16 | 0x2123, 100 + i, 0x1000, words, 0x1000 + 4064 * piece, n };
+        for (int k = 0; k < 7; k++)
+            put32(p + 4 * k, fields[k]);
+        memset(p + 28, (int)i, 4 * n);
+        p += 28 + 4 * n;
+    }
+}
+
+static void packets_in_order(uint32_t words) { put_packets(words, 1); }
+static void packets_mixed(uint32_t words) { put_packets(words, 27); } /* 27 has no divisor in common with 65 */
+
+static struct test *check_case(const char *name, void (*fill)(uint32_t), uint32_t words, double bound)
+{
+    struct test *t = add(name, CHECK_DUMP, 0, bound);
+    uint32_t pieces = (words + 1015) / 1016;
+    const uint8_t *p = (const uint8_t *)image;
+    t->image = fill;
+    t->parameter = words;
+    fill(words);
+    for (uint32_t i = 0; i < pieces; i++) {
+        uint32_t bytes = (uint32_t)p[4] << 8 | p[5];
+        bytes += 7;
+        t->in.packet[2 * i] = (uint8_t)(bytes >> 8);
+        t->in.packet[2 * i + 1] = (uint8_t)bytes;
+        p += bytes;
+    }
+    t->in.packet_bytes = 2 * pieces;
+    t->in.image_words = pieces * 7 + words;
+    t->items = pieces;
+    return t;
+}
+
 static void cases(void)
 {
     const uint32_t dump[LG_COMMAND_WORDS] = { 0, 1, UNIT, 0x321, 3000, region_start(1) };
@@ -403,6 +458,12 @@ static void cases(void)
     if (lg_slot(t->in.state, LG_STATE_WORDS, 5, image, t->in.image_words, t->in.packet, BUFFER_BYTES, &lent.length) != 0)
         abort();
     t->in.packet_bytes = lent.length;
+    check_case("check of a dump of 65 packets, in order", packets_in_order, 65535, 1.2);
+    check_case("check of a dump of 65 packets, in another order", packets_mixed, 65535, 1.2);
+    check_case("check of a dump of 1 packet", packets_in_order, 2, 2);
+    t = check_case("refused: bytes left over after 64 of 65 packets (3)", packets_in_order, 65535, 2);
+    t->in.packet_bytes = 128;
+    t->number = 3;
     t = add("start-up, 1 region", START_UP, 0, 2);
     table(t->in.words, 1, 4096);
     t = add("start-up, 16 regions", START_UP, 0, 2);
@@ -446,6 +507,7 @@ __attribute__((always_inline)) static inline uint32_t call(const struct library 
     case SLOT: return l->slot(lent.state, LG_STATE_WORDS, 5, img, in->image_words, lent.buffer, in->buffer_bytes, &lent.length);
     case WRITE: return l->write_command(in->words, LG_COMMAND_WORDS, lent.buffer, in->buffer_bytes, &lent.length);
     case READ: return l->read_command(in->packet, in->packet_bytes, lent.words, LG_COMMAND_WORDS);
+    case CHECK_DUMP: return l->check_dump((const uint8_t *)img, 4 * in->image_words, in->packet, in->packet_bytes);
     default: return l->read_packet(in->packet, in->packet_bytes, lent.words, LG_PACKET_WORDS, &lent.length);
     }
 }
@@ -535,7 +597,24 @@ static void change_symbols(struct input *in)
     }
 }
 
-/* The case as it is, and then with one to three random changes of the state, the packet, the block, the symbols or a batch's lists; half of the
+/* One random change of a dump to check: a byte of a packet's header, or of the list of lengths, or how long the list is or how many bytes there are. */
+static void change_dump(struct input *in)
+{
+    uint32_t count = (uint32_t)(in->packet_bytes / 2), packet = random_below(count), before = 0;
+    for (uint32_t i = 0; i < packet; i++)
+        before += (uint32_t)in->packet[2 * i] << 8 | in->packet[2 * i + 1];
+    uint8_t *header = (uint8_t *)image + before % (4 * (IMAGE_WORDS - 8));
+    switch (random_below(8)) {
+    case 0: in->packet[random_below(2 * count)] ^= (uint8_t)(1u << random_below(8)); break;
+    case 1: in->packet_bytes = random_below(2) ? in->packet_bytes - 1 - random_below(2) : in->packet_bytes + 1 + random_below(4); break;
+    case 2: in->image_words = random_below(2) ? in->image_words - 1 : in->image_words + 1; break;
+    case 3: header[6 + random_below(22)] = (uint8_t)random_below(256); break;
+    case 4: put32(header + 20, get32(header + 12) + 4064 * random_below(count + 1)); break;
+    default: header[random_below(28)] ^= (uint8_t)(1u << random_below(8)); break;
+    }
+}
+
+/* The case as it is, and then with one to three random changes of the state, the packet, the block, the symbols, a batch's lists or a dump; half of the
  * packets get a right check byte. How many of these were tried. */
 static int check(struct test *t, int tries)
 {
@@ -555,14 +634,21 @@ static int check(struct test *t, int tries)
             t->index[t->changed] = i;
             t->value[t->changed++] = t->in.state[i];
         }
-    if (t->in.image_words > 65536)
+    if (t->in.image_words > 65536 && t->kind != CHECK_DUMP)
         return 0;
     if (is_batch(t) && t->records > 0) /* these take long */
         tries /= 20;
     seed = random;
     for (int i = 0; i < tries; i++) {
         other = *t;
+        if (t->kind == CHECK_DUMP)
+            t->image(t->parameter);
         for (uint32_t changes = 1 + random_below(3); changes > 0; changes--) {
+            if (t->kind == CHECK_DUMP) {
+                if (other.in.packet_bytes >= 2)
+                    change_dump(&other.in);
+                continue;
+            }
             int has_state = may_load(t) || t->kind == SLOT;
             uint32_t *words = has_state ? other.in.state : other.in.words;
             uint32_t bound = has_state ? LG_STATE_WORDS : t->kind == START_UP ? LG_TABLE_WORDS : LG_COMMAND_WORDS;
@@ -580,7 +666,7 @@ static int check(struct test *t, int tries)
             } else
                 *word = random_below(2) ? v : random_below(2) ? *word + v : *word - v;
         }
-        if (random_below(2) && !is_batch(t))
+        if (random_below(2) && !is_batch(t) && t->kind != CHECK_DUMP)
             right_check_byte(other.in.packet, other.in.packet_bytes);
         else if (random_below(2) && is_batch(t))
             for (uint32_t k = 0; k < LG_BATCH_ITEMS; k++)
@@ -772,9 +858,10 @@ static long stack_bytes(const struct library *l, const struct test *t)
 
 static void stack_table(int listed)
 {
-    static const char *const names[] = { "start-up", "command", "batch", "slot", "command writer", "command reader", "dump packet reader" };
+    static const char *const names[] = { "start-up", "command", "batch", "slot", "command writer", "command reader", "dump packet reader",
+                                         "check of a dump" };
     printf("\nStack: the most bytes that a call of a case wrote to, beyond the empty call's\n\n| Call | ours | gcc | clang |\n|---|---|---|---|\n");
-    for (int kind = START_UP; kind <= READ_PACKET; kind++) {
+    for (int kind = START_UP; kind <= CHECK_DUMP; kind++) {
         long most[EMPTY] = { 0 };
         for (int i = 0; i < listed; i++)
             for (int l = 0; l < EMPTY && (int)tests[i].kind == kind; l++) {
@@ -790,6 +877,7 @@ static void growth_cases(void)
 {
     static const uint32_t regions[] = { 1, 2, 4, 8, 16 }, words[] = { 1, 16, 64, 256, 512, 1016 };
     static const uint32_t blocks[] = { 1, 16, 256, 4096, 65536, 1 << 20 }, records[] = { 1, 16, 64, 128, 256 };
+    static const uint32_t packets[] = { 1, 2, 8, 16, 33, 65 };
     for (int i = 0; i < 5; i++)
         slot_case("slot of 1,016 words by regions", regions[i], 3000, 0)->units = regions[i];
     for (int i = 0; i < 5; i++)
@@ -806,6 +894,8 @@ static void growth_cases(void)
     }
     for (int i = 0; i < 5; i++)
         symbol_case("value by records", 8, records[i], 1, 0)->units = records[i];
+    for (int i = 0; i < 6; i++)
+        check_case("check by packets", packets_in_order, 1016 * packets[i] - 505, 0)->units = packets[i];
 }
 
 int main(int argc, char **argv)
@@ -850,8 +940,9 @@ int main(int argc, char **argv)
     growth("Pool of 2^20 words against blocks of equal size, used or free by chance", "Blocks", 1, &tests[listed + 21], 6);
     growth("Dump command against regions, the range in the last", "Regions", 0, &tests[listed + 27], 5);
     growth("Value of the last symbol against records, names alike to the last of 48 bytes", "Records", 0, &tests[listed + 32], 5);
+    growth("Check of a dump against packets, in order", "Packets", 0, &tests[listed + 37], 6);
     stack_table(listed);
-    printf("\n%d of %d cases are within their bounds (1.2 for slots of 1,016 words, pools and tables of 256 symbols, 2 for short calls).%s", within,
+    printf("\n%d of %d cases are within their bounds (1.2 for slots of 1,016 words, pools, tables of 256 symbols and dumps of 65 packets, 2 for short calls).%s", within,
            listed, within < listed ? " Not within:" : "");
     for (int i = 0; i < listed; i++)
         if (tests[i].ratio > tests[i].bound)

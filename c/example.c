@@ -1,6 +1,6 @@
-/* A pass through the C interface: start-up, a dump, a load, pool statistics, slots until the dump is whole, a batch, a symbol's value and dumps by
- * its name, refusals, and blocks that are none.
- * It prints what it does, and exits 0 only if all is as expected.
+/* A pass through the C interface: start-up, a dump, a load, pool statistics, slots until the dump is whole, the ground desk's check of its packets, a
+ * batch, a symbol's value and dumps by its name, refusals, and blocks that are none.
+ * It prints what it does, and exits 0 only if all is as expected. With a file's name, the dump's packets go there, back to back (see desk.c).
  *   rt staticlib capi && gcc -O2 -Wall -Wextra -o example c/example.c target/staticlib/libcapi.a && ./example */
 #include "leatgarnet.h"
 #include <stdio.h>
@@ -21,6 +21,9 @@ static uint32_t image[IMAGE_WORDS];
 static uint8_t packet[68], reply[32], telemetry[4092];
 static uint8_t symbols[4 * LG_SYMBOL_BYTES];
 static size_t symbols_bytes;
+static uint8_t downlink[2 * sizeof telemetry]; /* the dump's packets, and their lengths */
+static size_t downlink_bytes, packets;
+static uint8_t lengths[4];
 
 /* A command written, read back, and sent. */
 static uint32_t send(const char *name, const uint32_t command[LG_COMMAND_WORDS])
@@ -105,11 +108,39 @@ static void slots(void)
         expect("last word", big_endian(telemetry + length - 4), image[sent + fields[7] - 1]);
         sent += fields[7];
         tick++;
+        memcpy(downlink + downlink_bytes, telemetry, length);
+        downlink_bytes += length;
+        lengths[2 * packets] = (uint8_t)(length >> 8), lengths[2 * packets + 1] = (uint8_t)length;
+        packets++;
     }
     expect("words sent", sent, DUMP_WORDS);
     expect("slots with nothing to send", lg_slot(state, LG_STATE_WORDS, tick, image, IMAGE_WORDS, telemetry, sizeof telemetry, &length), 16);
     expect("its length", length, 0);
     expect("place idle", state[54], 0);
+}
+
+/* The ground desk's check of the two packets: whole, in both orders, and what is wrong with others. */
+static void check(void)
+{
+    size_t first = (size_t)lengths[0] << 8 | lengths[1], second = downlink_bytes - first;
+    uint8_t other[sizeof downlink], other_lengths[4] = { lengths[2], lengths[3], lengths[0], lengths[1] };
+    printf("-- check of the dump\n");
+    expect("packets", (uint32_t)packets, 2);
+    expect("whole", lg_check_dump(downlink, downlink_bytes, lengths, 4), 0);
+    memcpy(other, downlink + first, second);
+    memcpy(other + second, downlink, first);
+    expect("in the other order", lg_check_dump(other, downlink_bytes, other_lengths, 4), 0);
+    expect("the second piece missing", lg_check_dump(downlink, first, lengths, 2), LG_MISSING_PIECE + 1);
+    expect("the first piece missing", lg_check_dump(other, second, other_lengths, 2), LG_MISSING_PIECE);
+    expect("no packets", lg_check_dump(NULL, 0, NULL, 0), LG_MISSING_PIECE);
+    expect("cut short by a byte", lg_check_dump(downlink, downlink_bytes - 1, lengths, 4), LG_BAD_PACKET + 1);
+    expect("a packet left over", lg_check_dump(downlink, downlink_bytes, lengths, 2), 3);
+    expect("odd list", lg_check_dump(downlink, downlink_bytes, lengths, 3), 3);
+    other[second + 7] ^= 1;
+    expect("another transaction", lg_check_dump(other, downlink_bytes, other_lengths, 4), LG_BAD_PACKET + 1);
+    memcpy(other + second, other, second);
+    other_lengths[2] = lengths[2], other_lengths[3] = lengths[3];
+    expect("the same piece twice", lg_check_dump(other, 2 * second, other_lengths, 4), LG_BAD_PACKET + 1);
 }
 
 /* A load, pool statistics, a damaged packet, an item past the end, and pool statistics again, in one call; then two that are refused. */
@@ -252,7 +283,17 @@ static void refusals(void)
     expect("state block of 79 words", lg_slot(state, 79, 0, image, IMAGE_WORDS, telemetry, sizeof telemetry, &length), 1);
 }
 
-int main(void)
+static void write_file(const char *name)
+{
+    FILE *file = fopen(name, "wb");
+    size_t written = file ? fwrite(downlink, 1, downlink_bytes, file) : 0;
+    if (!file || fclose(file) != 0 || written != downlink_bytes) {
+        perror(name);
+        failed = 1;
+    }
+}
+
+int main(int argc, char **argv)
 {
     for (uint32_t i = 0; i < IMAGE_WORDS; i++)
         image[i] = i;
@@ -261,6 +302,9 @@ int main(void)
     load();
     pool();
     slots();
+    if (argc > 1)
+        write_file(argv[1]);
+    check();
     batch();
     by_name();
     refusals();

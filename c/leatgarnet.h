@@ -1,4 +1,4 @@
-/* The C interface of the memory service (paper 01; paper 02, A1 to A5), for x86-64. Nothing is allocated and nothing is kept between calls: all state
+/* The C interface of the memory service (paper 01; paper 02, A1 to A6), for x86-64. Nothing is allocated and nothing is kept between calls: all state
  * is in the block that the caller lends. Each call returns a result number of the papers. What a call asks of its caller:
  *   - a pointer and its length say what is lent; a length of 0 lends nothing, and its pointer may be anything;
  *   - words and answer records are aligned to 4 bytes;
@@ -118,6 +118,19 @@ uint32_t lg_read_command(const uint8_t *packet, size_t packet_bytes, uint32_t *c
 
 /* 0 and the fields in `fields`; 3 if the block has another length, before all else; 4, 5, 7 or 9, and `fields` unchanged. */
 uint32_t lg_read_packet(const uint8_t *packet, size_t packet_bytes, uint32_t *fields, size_t fields_words, uint32_t *data_bytes);
+
+/* THE CHECK OF A WHOLE DUMP, for the ground desk: are these packets, whoever sent them, back to back in `bytes` and in any order, one whole dump?
+ * `lengths` has two bytes, big-endian, for each packet: its length. Packets and pieces are numbered from 0. In this order:
+ *   3               the list has an odd number of bytes or over 65 lengths, or bytes are left over after the last packet
+ *   65,536 + i      packet i is the first bad one: refused by the dump packet reader, past the end of `bytes`, of another unit, transaction, requested
+ *                   address or requested words than packet 0, or with a piece that an earlier packet has
+ *   131,072 + k     piece k, words 1,016 k and on of the requested range, is the lowest missing one; 131,072 if there are no packets
+ *   0               each piece of the range is there once
+ * Sequence counts and ticks are not compared, and the data are not read. */
+#define LG_CHECK_PACKETS 65
+#define LG_BAD_PACKET 65536
+#define LG_MISSING_PIECE 131072
+uint32_t lg_check_dump(const uint8_t *bytes, size_t bytes_length, const uint8_t *lengths, size_t lengths_bytes);
 
 #ifdef __cplusplus
 }

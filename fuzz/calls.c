@@ -1,7 +1,8 @@
 /* Hostile input for the exported calls. An input is a list of steps on one state block, one image and one symbol table; each step is a byte that
  * names it, then what it takes. Every lent buffer is a heap block of its own, just as long as is said to the call, so that AddressSanitizer has
  * red zones at both ends; the library's own code is instrumented too (fuzz/run). Beside that, each call's refusals are held to the header: the
- * number is one of the call's, and a refusal leaves every lent buffer as it was; and so are a batch, the packet of a slot and a pool's figures. */
+ * number is one of the call's, and a refusal leaves every lent buffer as it was; and so are a batch, the packet of a slot, a pool's figures and the
+ * check of a dump, beside the packet reader. */
 #include "../c/leatgarnet.h"
 #include <stdlib.h>
 #include <string.h>
@@ -305,6 +306,81 @@ static void read_packet(void)
     give_back(packet), give_back(block);
 }
 
+static void put(uint8_t *p, uint32_t v)
+{
+    p[0] = (uint8_t)(v >> 24), p[1] = (uint8_t)(v >> 16), p[2] = (uint8_t)(v >> 8), p[3] = (uint8_t)v;
+}
+
+/* Of the packets before packet n: each is accepted and agrees with the first, and no two have the same data address. Their data bytes. */
+static size_t sound(const uint8_t *packet, const uint8_t *lengths, size_t n)
+{
+    uint32_t here[LG_CHECK_PACKETS], first[LG_PACKET_WORDS], fields[LG_PACKET_WORDS], data_bytes;
+    size_t all = 0;
+    for (size_t i = 0; i < n; i++) {
+        size_t length = (size_t)lengths[2 * i] << 8 | lengths[2 * i + 1];
+        must(lg_read_packet(packet, length, fields, LG_PACKET_WORDS, &data_bytes) == 0);
+        if (i == 0)
+            memcpy(first, fields, sizeof first);
+        must(fields[1] == first[1] && fields[2] == first[2] && fields[4] == first[4] && fields[5] == first[5]);
+        for (size_t k = 0; k < i; k++)
+            must(here[k] != fields[6]);
+        here[i] = fields[6], all += data_bytes, packet += length;
+    }
+    return all;
+}
+
+/* Bytes and a list from the input. Or so many packets of a dump, its pieces at some step from each other, with a few bytes of headers and of the list
+ * changed, and bytes and list of about the length that fits. */
+static void check_dump(int right)
+{
+    static uint8_t all[70 * 4092], list[140];
+    size_t used = 0, count = 0;
+    if (right) {
+        uint32_t words = 1 + half() % 65535, pieces = (words + 1015) / 1016, start = word(), first = byte(), step = byte(), changes = byte() % 4;
+        count = near(pieces) % 70;
+        for (size_t i = 0; i < count; i++) {
+            uint32_t piece = (first + step * (uint32_t)i) % pieces, n = words - 1016 * piece < 1016 ? words - 1016 * piece : 1016, bytes = 28 + 4 * n;
+            uint8_t *p = all + used;
+            put(p, 0x0314C000 | (uint32_t)i), put(p + 4, (bytes - 7) << 16 | 0x2123), put(p + 8, (uint32_t)i), put(p + 12, start), put(p + 16, words);
+            put(p + 20, start + 4064 * piece), put(p + 24, n);
+            memset(p + 28, (int)i, 4 * n);
+            list[2 * i] = (uint8_t)(bytes >> 8), list[2 * i + 1] = (uint8_t)bytes;
+            used += bytes;
+        }
+        while (changes-- > 0 && count > 0) {
+            uint32_t packet = byte() % (uint32_t)count, at = byte(), value = byte();
+            size_t from = 0;
+            for (size_t i = 0; i < packet; i++)
+                from += (size_t)list[2 * i] << 8 | list[2 * i + 1];
+            if (at < 28 && from + at < used)
+                all[from + at] = (uint8_t)value;
+            else
+                list[2 * packet + at % 2] = (uint8_t)value;
+        }
+    }
+    struct lent bytes_lent = right ? copy(all, near(used) % sizeof all) : bytes(half() % 4200);
+    struct lent lengths = right ? copy(list, near(2 * count) % sizeof list) : bytes(byte() % 140);
+    keep(bytes_lent), keep(lengths);
+    uint32_t number = lg_check_dump(bytes_lent.now, bytes_lent.bytes, lengths.now, lengths.bytes);
+    must(same(bytes_lent) && same(lengths));
+    const uint8_t *l = lengths.now;
+    size_t n = lengths.bytes / 2, sum = 0;
+    for (size_t i = 0; i < n; i++)
+        sum += (size_t)l[2 * i] << 8 | l[2 * i + 1];
+    must((number == 3) == (lengths.bytes % 2 == 1 || n > LG_CHECK_PACKETS || sum < bytes_lent.bytes));
+    if (number >= LG_MISSING_PIECE) {
+        must(number - LG_MISSING_PIECE < LG_CHECK_PACKETS && (n > 0 || number == LG_MISSING_PIECE));
+        sound(bytes_lent.now, l, n);
+    } else if (number >= LG_BAD_PACKET) {
+        must(number - LG_BAD_PACKET < n);
+        sound(bytes_lent.now, l, number - LG_BAD_PACKET);
+    } else if (number == 0)
+        must(n > 0 && sound(bytes_lent.now, l, n) == 4 * number_at((const uint8_t *)bytes_lent.now + 16));
+    else
+        must(number == 3);
+    give_back(bytes_lent), give_back(lengths);
+}
+
 /* Another state block, of any length and content; its last word is 0. */
 static void other_state(void)
 {
@@ -380,6 +456,10 @@ int LLVMFuzzerTestOneInput(const uint8_t *data, size_t size)
         }
         if (step >= 231 && step <= 241) { /* a round of eleven */
             other_symbols(step % 2 == 0);
+            continue;
+        }
+        if (step >= 220 && step <= 230) { /* a round of eleven */
+            check_dump(step % 2 == 0);
             continue;
         }
         switch (step % 11) {

@@ -14,6 +14,9 @@ SEARCH = "    for (i, region) in used_regions(setup).iter().enumerate() {\n"
 OUT = "if end_of(start, words) <= end { Ok(i) } else { Err(19) };"
 MISSED = "    Err(10)\n}"
 
+EARLIER = "good.iter().any(|earlier| !agree(earlier, &fields)"
+LEFT = "if ends.last().copied().unwrap_or(0) < bytes.len() as u64 {"
+
 def halving(short="end_of(m.start, m.size) < end_of(start, 1)", among="all.len()", until="left > 1"):
     """the model's search by halving (A3), with a fault in one of its parts"""
     return f"""    let all = used_regions(setup);
@@ -225,6 +228,29 @@ MUTANTS = [
     ("door: idle place not zero", D, "0 => (words[1..5] == [0; 4]).then_some(DumpPlace::Idle)", "0 => Some(DumpPlace::Idle)"),
     ("door: reply length left", D, "        *reply_length = 0;\n", ""),
     ("door: data bytes left", D, "        *data_bytes = 0;\n", ""),
+    ("desk: a repeated piece taken", M, " || earlier.data_address == fields.data_address)", ")"),
+    ("desk: all agree with the second", M, EARLIER, "good.iter().enumerate().any(|(i, earlier)| (i > 0 && !agree(earlier, &fields))"),
+    ("desk: unit not compared", M, "    first.unit == other.unit\n        && first", "    first"),
+    ("desk: transaction not compared", M, "        && first.transaction == other.transaction\n", ""),
+    ("desk: address not compared", M, "        && first.requested_address == other.requested_address\n", ""),
+    ("desk: words not compared", M, "        && first.requested_words == other.requested_words\n", ""),
+    ("desk: sequence counts compared", M, "    first.unit == other.unit\n        && first", "    first.count == other.count && first.unit == other.unit\n        && first"),
+    ("desk: ticks compared", M, "    first.unit == other.unit\n        && first", "    first.tick == other.tick && first.unit == other.unit\n        && first"),
+    ("desk: missing piece counted from 1", M, "return MISSING_PIECE + piece;", "return MISSING_PIECE + piece + 1;"),
+    ("desk: last missing piece given", M, "return MISSING_PIECE + piece;", "return MISSING_PIECE + (piece..65).rev().find(|k| CUT * k < first.requested_words && !good.iter().any(|g| u64::from(g.data_address.0) == end_of(first.requested_address, CUT * k))).unwrap_or(piece);"),
+    ("desk: last piece not asked for", M, "while CUT * piece < first.requested_words {", "while CUT * (piece + 1) < first.requested_words {"),
+    ("desk: bytes left over ignored", M, LEFT, "if false {"),
+    ("desk: bytes left over after a bad first packet", M, LEFT, LEFT[:-2] + "&& read_packet(&bytes[..bytes.len().min(ends.first().copied().unwrap_or(0) as usize)]).is_ok() {"),
+    ("desk: left over seen in 16 bits", M, LEFT, "if ends.last().copied().unwrap_or(0) % 65_536 < bytes.len() as u64 % 65_536 {"),
+    ("desk: odd list rounded down", M, "if list.len() % 2 != 0 || list.len()", "let list = &list[..list.len() / 2 * 2];\n    if list.len()"),
+    ("desk: odd list filled up", M, "if list.len() % 2 != 0 || list.len()", "let list = &[list, &vec![0; list.len() % 2]].concat()[..];\n    if list.len()"),
+    ("desk: 66 packets taken", M, "list.len() > 2 * DESK_PACKETS_MOST", "list.len() > 2 * DESK_PACKETS_MOST + 2"),
+    ("desk: 65 packets refused", M, "list.len() > 2 * DESK_PACKETS_MOST", "list.len() >= 2 * DESK_PACKETS_MOST"),
+    ("desk: last bad packet given", M, "Err(_) => return BAD_PACKET + number as u32,", "Err(_) => return BAD_PACKET + ends.iter().rposition(|end| *end > bytes.len() as u64).unwrap_or(number) as u32,"),
+    ("desk: a packet past the end as far as it goes", M, "if there { read_packet(&bytes[start as usize..*end as usize]) } else { Err(4) };", "{ let _ = there; read_packet(&bytes[bytes.len().min(start as usize)..bytes.len().min(*end as usize)]) };"),
+    ("desk: lengths lowest byte first", M, "256 * u64::from(two[0]) + u64::from(two[1])", "u64::from(two[0]) + 256 * u64::from(two[1])"),
+    ("desk: no packets are a whole dump", M, "        return MISSING_PIECE;\n", "        return 0;\n"),
+    ("desk: bad packet counted from 1", M, "            Err(_) => return BAD_PACKET + number as u32,", "            Err(_) => return BAD_PACKET + number as u32 + 1,"),
 ]
 
 def run(*command, **more):

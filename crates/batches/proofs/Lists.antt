@@ -3,7 +3,7 @@
 use mathlib.Core.Path.{_≡_, refl, sym, ap, subst, _∙_}
 use mathlib.Core.Bool.{true, false}
 use mathlib.Core.List.{List, [], _∷_, _++_}
-use Prim.Native.Nat.{ℕ, _+_, _*_, _-_, _≤_}
+use Prim.Native.Nat.{ℕ, _+_, _-_, _≤_}
 use native.Mathlib.Omega.{arith}
 use lib.ListN.{length, take, drop, length-take, length-drop, List·getD-eq-default}
 use lib.Seq.{getD-take, getD-drop}
@@ -35,10 +35,10 @@ packet-bytes bytes start n b i =
     rw (List·getD-eq-default (take n (drop start bytes)) 0 past) (omega arith))))
 
 -- events that a list of single calls has from a state
-record Told (s : State) (es : List Event) : Type 0 where
-  calls : List Call
-  bytes : LendsBytes calls
-  are : es ≡ events s calls
+pub record Told (s : State) (es : List Event) : Type 0 where
+  pub calls : List Call
+  pub bytes : LendsBytes calls
+  pub are : es ≡ events s calls
 
 abbrev event : State → Call → Event
 event s c = record { given = s; call = c; out = step s c }
@@ -68,7 +68,7 @@ with-step s (many a records) es b t =
     (λ e. rw e (left _ (command-in-order .refused s a records e)))
     (λ e. rw e (with-items s (a .symbols) (a .image) (a .bytes) (a .starts) (a .lengths) (a .replies) es b (left _ (command-in-order .equals s a records e))))
 
-along : (s : State) (xs : List Step) → StepsLendBytes xs → Told s (eventsAlong s xs)
+pub along : (s : State) (xs : List Step) → StepsLendBytes xs → Told s (eventsAlong s xs)
 along s [] bs = record { calls = []; bytes = tt; are = refl }
 along s (x ∷ xs) bs = with-step s x (eventsAlong (returnedBy s x) xs) (bs .0) (along (returnedBy s x) xs (bs .1))
 

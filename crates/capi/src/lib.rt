@@ -5,6 +5,7 @@ ghost use lib.ListN.{length};
 ghost use Rattle.rules.specs.Results.{verdictNumber};
 ghost use Rattle.batches.specs.Batch.{lends, LeftAs, filled};
 ghost use Rattle.lent_batch.specs.Batches.{lgCommands};
+ghost use Rattle.whole_dump.specs.Check.{checkDump};
 ghost use Rattle.capi.specs.Commands.{lgWriteCommand, lgReadCommand, lgReadPacket};
 use answers::ItemAnswer;
 use answers::number_of;
@@ -13,6 +14,7 @@ use block::put_run;
 use command_reader::put_beside;
 use command_reader::reading_of;
 use command_writer::write_packet;
+use dump_check::check_dump;
 use ground_blocks::command_in;
 use ground_blocks::field_words;
 use ground_blocks::head_words;
@@ -167,4 +169,13 @@ pub extern "C" fn lg_read_packet(packet: &[u8], fields: &mut [u32], bytes: &mut 
             return 0;
         }
     }
+}
+
+// THE CHECK OF A WHOLE DUMP
+
+#[no_mangle]
+pub extern "C" fn lg_check_dump(bytes: &[u8], lengths: &[u8]) -> u32
+    ensures { λ n. ⌜ n ≡ checkDump (now (bytes .entry)) (now (lengths .entry)) ⌝ }
+{
+    check_dump(bytes, lengths)
 }

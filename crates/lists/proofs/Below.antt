@@ -1,7 +1,7 @@
 -- Laws of the tests, sums and searches over the indices below a number.
 -- Assumes nothing.
-use mathlib.Core.Path.{_≡_, refl, sym, ap, ap₂, _∙_}
-use mathlib.Core.Bool.{Bool, true, false, _&&_, _||_, cond}
+use mathlib.Core.Path.{_≡_, refl, sym, ap₂, _∙_}
+use mathlib.Core.Bool.{Bool, true, false, _&&_, _||_}
 use mathlib.Core.Logic.{⊎-elim}
 use Prim.Native.Nat.{ℕ, zero, suc, _+_, _≤_, _<_}
 use native.Mathlib.Nat.{eq-or-lt-of-le}
@@ -107,6 +107,11 @@ all-same p q (suc m) f = ap₂ (λ (x y : Bool). x && y) (all-same p q m (λ i l
 pub any-same : (p q : ℕ → Bool) (n : ℕ) → ((i : ℕ) → i < n → p i ≡ q i) → anyBelow p n ≡ anyBelow q n
 any-same p q zero f = refl
 any-same p q (suc m) f = ap₂ (λ (x y : Bool). x || y) (any-same p q m (λ i l. f i (omega arith))) (f m (omega arith))
+
+pub first-same : (p q : ℕ → Bool) (n : ℕ) → ((i : ℕ) → i < n → p i ≡ q i) → firstBelow p n ≡ firstBelow q n
+first-same p q zero f = refl
+first-same p q (suc m) f =
+    rw (any-same p q m (λ i l. f i (omega arith)), first-same p q m (λ i l. f i (omega arith)), f m (omega arith))
 
 -- SUMS
 

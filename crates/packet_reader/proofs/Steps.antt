@@ -19,7 +19,6 @@ use Rattle.rules.specs.Packets.{primaryRules, apidOf}
 use Rattle.rules.specs.Ground.{packetFields, couldBeDumped, isCut, cutRules, packetRows, concludePacket, readPacket}
 use Rattle.rules.proofs.LowestNumber.{test-passed}
 use Rattle.rules.specs.declared.DumpPacket.{DumpPacket}
-use Rattle.rules.specs.declared.PacketReading.{PacketReading}
 use Rattle.rules.specs.declared.PacketReading.the-variants.{NoPacket, Packet}
 use Rattle.rules.specs.declared.Range.{Range}
 use Rattle.rules.specs.declared.Refusal.{Refusal}
@@ -64,17 +63,21 @@ module _ (f : DumpPacket) where
 
 -- THE ROWS, each from what the functions that were called before gave
 
-module _ (p : List ℕ) (a : Bool) (ea : a ≡ primaryRules 0 0 p) where
-  pub malformed : not (leb 28 (length p) && a) ≡ true → NoPacket Malformed ≡ readPacket p .reading
-  unfolding readPacket packetRows lowest
-  malformed h = let e : (leb 28 (length p) && primaryRules 0 0 p) ≡ false = rw ea at (not-true (leb 28 (length p) && a) h) in rw e
+pub short : (p : List ℕ) → length p < 28 → Rejected Malformed ≡ lowest (packetRows p)
+unfolding packetRows lowest
+short p l = rw (lt-leb 28 (length p) l)
 
-  module _ (h : not (leb 28 (length p) && a) ≡ false) (x : ℕ) (ex : x ≡ beAt 2 p 0) where
+module _ (p : List ℕ) (long : 28 ≤ length p) (a : Bool) (ea : a ≡ primaryRules 0 0 p) where
+  pub malformed : not a ≡ true → Rejected Malformed ≡ lowest (packetRows p)
+  unfolding packetRows lowest
+  malformed h = let e : primaryRules 0 0 p ≡ false = rw ea at (not-true a h) in rw (le-leb 28 (length p) long, e)
+
+  module _ (h : not a ≡ false) (x : ℕ) (ex : x ≡ beAt 2 p 0) where
     formed : (leb 28 (length p) && primaryRules 0 0 p) ≡ true
-    formed = rw ea at (not-false (leb 28 (length p) && a) h)
+    formed = let e : primaryRules 0 0 p ≡ true = rw ea at (not-false a h) in rw (le-leb 28 (length p) long, e)
 
-    pub other-apid : x % 2048 ≢ 788 → NoPacket OtherApid ≡ readPacket p .reading
-    unfolding readPacket packetRows lowest
+    pub other-apid : x % 2048 ≢ 788 → Rejected OtherApid ≡ lowest (packetRows p)
+    unfolding packetRows lowest
     other-apid n = let e : eqb (apidOf p) 788 ≡ false = rw ex at (ne-eqb (x % 2048) 788 n) in rw (formed, e)
 
     module _ (k : x % 2048 ≡ 788) (f : DumpPacket) (ef : f ≡ packetFields p) where
@@ -85,8 +88,8 @@ module _ (p : List ℕ) (a : Bool) (ea : a ≡ primaryRules 0 0 p) where
       sized g = leb 1 (g .words) && leb (g .words) 1016 && eqb (length p) (28 + 4 * g .words)
 
       pub wrong-length : not (leb 1 (f .words) && leb (f .words) 1016 && eqb (length p) (28 + 4 * f .words)) ≡ true
-          → NoPacket PacketLength ≡ readPacket p .reading
-      unfolding readPacket packetRows lowest pieceWords
+          → Rejected PacketLength ≡ lowest (packetRows p)
+      unfolding packetRows lowest pieceWords
       wrong-length n =
           let e : sized (packetFields p) ≡ false = ap sized (sym ef) ∙ not-true (sized f) n in
           rw (formed, dumped, e)
@@ -95,17 +98,33 @@ module _ (p : List ℕ) (a : Bool) (ea : a ≡ primaryRules 0 0 p) where
         right-length : sized (packetFields p) ≡ true
         right-length = ap sized (sym ef) ∙ not-false (sized f) l
 
-        pub no-cut : not c ≡ true → NoPacket BadField ≡ readPacket p .reading
-        unfolding readPacket packetRows lowest pieceWords
+        pub no-cut : not c ≡ true → Rejected BadField ≡ lowest (packetRows p)
+        unfolding packetRows lowest pieceWords
         no-cut n =
             let e : cutRules (packetFields p) ≡ false = ap cutRules (sym ef) ∙ sym ec ∙ not-true c n in
             rw (formed, dumped, right-length, e)
 
-        pub accepted : not c ≡ false → Packet f ≡ readPacket p .reading
-        unfolding readPacket packetRows lowest pieceWords
+        pub accepted : not c ≡ false → Accepted ≡ lowest (packetRows p)
+        unfolding packetRows lowest pieceWords
         accepted n =
             let e : cutRules (packetFields p) ≡ true = ap cutRules (sym ef) ∙ sym ec ∙ not-false c n in
-            ap Packet ef ∙ rw (formed, dumped, right-length, e)
+            rw (formed, dumped, right-length, e)
+
+-- THE READING, by the verdict
+
+module _ (p : List ℕ) (v : Verdict) (ev : v ≡ lowest (packetRows p)) where
+  pub refused-reading : (r : Refusal) → v ≡ Rejected r → NoPacket r ≡ readPacket p .reading
+  unfolding readPacket
+  refused-reading r e = ap (λ (w : Verdict). concludePacket p w .reading) (sym e ∙ ev)
+
+  pub accepted-reading : v ≡ Accepted → (f : DumpPacket) → f ≡ packetFields p → Packet f ≡ readPacket p .reading
+  unfolding readPacket
+  accepted-reading e f ef = ap Packet ef ∙ ap (λ (w : Verdict). concludePacket p w .reading) (sym e ∙ ev)
+
+  pub accepted-long : v ≡ Accepted → 28 ≤ length p
+  unfolding packetRows
+  accepted-long e =
+      leb-true _ _ (and-left (leb 28 (length p)) (primaryRules 0 0 p) (not-false _ (test-passed (packetRows p) (sym ev ∙ e) 4)))
 
 -- THE DATA PART
 
@@ -119,13 +138,12 @@ module _ (p : List ℕ) where
       go Accepted e = let z : _≡_ {A = ℕ} 0 1 = cc in absurd (omega arith)
 
   pub accepted-part : (f : DumpPacket) → readPacket p .reading ≡ Packet f → (28 ≤ length p) × (readPacket p .part ≡ drop 28 p)
-  unfolding readPacket packetRows
+  unfolding readPacket
   accepted-part f = go (lowest (packetRows p)) refl
     where
       go : (v : Verdict) → lowest (packetRows p) ≡ v → concludePacket p v .reading ≡ Packet f → (28 ≤ length p) × (concludePacket p v .part ≡ drop 28 p)
       go (Rejected x) q e = let z : _≡_ {A = ℕ} 0 1 = cc in absurd (omega arith)
-      go Accepted q e =
-          (leb-true _ _ (and-left (leb 28 (length p)) (primaryRules 0 0 p) (not-false _ (test-passed (packetRows p) q 4))), refl)
+      go Accepted q e = (accepted-long p _ refl q, refl)
 
   -- the bytes from the header's end to the packet's end
   pub data-part : (f : DumpPacket) → readPacket p .reading ≡ Packet f → take (length p - 28) (drop 28 p) ≡ readPacket p .part

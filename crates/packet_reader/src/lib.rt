@@ -1,6 +1,9 @@
 // The dump packet reader: 4, 5, 7, 9 or the fields, for any bytes of any length, and the data part of the caller's own packet.
 ghost use mathlib.Core.Path.{_≡_};
-ghost use Rattle.rules.specs.Ground.{packetFields, couldBeDumped, isCut, cutRules, readPacket};
+ghost use Prim.Native.Nat.{_≤_};
+ghost use lib.ListN.{length};
+ghost use Rattle.rules.specs.Ground.{packetFields, couldBeDumped, isCut, cutRules, packetRows, readPacket};
+ghost use Rattle.rules.specs.Results.{lowest};
 use packet::header_at;
 use packet::primary_rules;
 use rules::Address;
@@ -8,22 +11,24 @@ use rules::DumpPacket;
 use rules::PacketReading;
 use rules::Range;
 use rules::Refusal;
-use wire::get16;
-use wire::get32;
+use rules::Verdict;
+use wire::read16;
+use wire::read32;
 
 // The fields after the primary header, as they stand.
 fn packet_fields(p: &[u8]) -> DumpPacket
+    requires { ⌜ 28 ≤ length (now p) ⌝ }
     ensures { λ r. ⌜ r ≡ packetFields (now (p .entry)) ⌝ }
 {
     let header = header_at(p, 6);
-    let tick = get32(p, 8);
-    let start = Address(get32(p, 12));
+    let tick = read32(p, 8);
+    let start = Address(read32(p, 12));
     let range = Range {
         start,
-        words: get32(p, 16),
+        words: read32(p, 16),
     };
-    let here = Address(get32(p, 20));
-    let words = get32(p, 24);
+    let here = Address(read32(p, 20));
+    let words = read32(p, 24);
     DumpPacket {
         header,
         tick,
@@ -68,27 +73,40 @@ fn cut_rules(f: DumpPacket) -> bool
     could_be_dumped(range) & (offset % 4 == 0) & is_cut(range, offset / 4, f.words)
 }
 
-// The fields of a dump packet.
-pub fn read_packet(p: &[u8]) -> PacketReading
-    ensures { λ r. ⌜ r ≡ readPacket (now (p .entry)) .reading ⌝ }
+// Numbers 4, 5, 7 and 9 of a dump packet.
+pub fn packet_verdict(p: &[u8]) -> Verdict
+    ensures { λ v. ⌜ v ≡ lowest (packetRows (now (p .entry))) ⌝ }
 {
-    let form = (28 <= p.len()) & primary_rules(p, 0, 0);
-    if !form {
-        return PacketReading::NoPacket(Refusal::Malformed);
+    if p.len() < 28 {
+        return Verdict::Rejected(Refusal::Malformed);
     }
-    if get16(p, 0) % 2048 != 788 {
-        return PacketReading::NoPacket(Refusal::OtherApid);
+    if !primary_rules(p, 0, 0) {
+        return Verdict::Rejected(Refusal::Malformed);
+    }
+    if read16(p, 0) % 2048 != 788 {
+        return Verdict::Rejected(Refusal::OtherApid);
     }
     let f = packet_fields(p);
     let words = f.words as usize;
     let sized = (1 <= words) & (words <= 1016) & (p.len() == 28 + 4 * words);
     if !sized {
-        return PacketReading::NoPacket(Refusal::PacketLength);
+        return Verdict::Rejected(Refusal::PacketLength);
     }
     if !cut_rules(f) {
-        return PacketReading::NoPacket(Refusal::BadField);
+        return Verdict::Rejected(Refusal::BadField);
     }
-    PacketReading::Packet(f)
+    Verdict::Accepted
+}
+
+// The fields of a dump packet.
+pub fn read_packet(p: &[u8]) -> PacketReading
+    ensures { λ r. ⌜ r ≡ readPacket (now (p .entry)) .reading ⌝ }
+{
+    let verdict = packet_verdict(p);
+    match verdict {
+        Verdict::Rejected(r) => PacketReading::NoPacket(r),
+        Verdict::Accepted => PacketReading::Packet(packet_fields(p)),
+    }
 }
 
 // The data part of a dump packet, which is part of the caller's own packet; empty where the packet is refused.

@@ -1,4 +1,4 @@
--- Every call of a good state is lawful and leaves a good state, by demand 2; the value of a symbol by what its call leaves.
+-- Every call of a good state is lawful and leaves a good state with its table and unit, by demand 2; the value of a symbol by what its call leaves.
 -- Assumes nothing.
 use mathlib.Core.Path.{_≡_, _∙_, refl, ap, ap₂, sym}
 use mathlib.Core.Logic.{_≢_}
@@ -46,13 +46,14 @@ use Rattle.rules.proofs.Laws.{Puts, Seen, never, its, Law, kept, accept
 use Rattle.rules.proofs.Shown.{served-number, served-shows}
 
 -- a call of the state s, as it is made
-abbrev made : State → Call → Event
+abbrev pub made : State → Call → Event
 made s c = record { given = s; call = c; out = step s c }
 
 pub record Lawful (s : State) (c : Call) : Type 0 where
   pub law : Law (s .places) (s .last) (made s c) (step s c .state .places) (step s c .state .last)
   pub regions : step s c .state .regions ≡ s .regions
   pub count : step s c .state .count ≡ s .count
+  pub unit : step s c .state .unit ≡ s .unit
   pub good : goodState (step s c .state) ≡ true
 
 -- a call whose number is not 0 is seen as nothing
@@ -112,11 +113,12 @@ by-code p dumps cancels loads pools values by-names others =
       ]
     ]
 
--- the last place served and the table stay under every command
+-- the last place served, the table and the unit stay under every command
 record Stays (s s′ : State) : Type 0 where
   last : s′ .last ≡ s .last
   regions : s′ .regions ≡ s .regions
   count : s′ .count ≡ s .count
+  unit : s′ .unit ≡ s .unit
 
 -- under an accepted one
 after-stays : (s : State) {s′ : State} {ps : List Place} {replies values : ℕ} → s′ ≡ afterCommand s ps replies values → Stays s s′
@@ -125,6 +127,7 @@ after-stays s e =
       last = ap (λ (z : State). z .last) e;
       regions = ap (λ (z : State). z .regions) e;
       count = ap (λ (z : State). z .count) e;
+      unit = ap (λ (z : State). z .unit) e;
     }
 
 -- and under a refused one, with the places
@@ -132,7 +135,7 @@ abbrev AllStays : State → State → Type 0
 AllStays s s′ = Stays s s′ × (s′ .places ≡ s .places)
 
 changed-stays : (s : State) (w x y z : ℕ) → AllStays s (changed s (s .places) w x y z)
-changed-stays s w x y z = (record { last = refl; regions = refl; count = refl }, refl)
+changed-stays s w x y z = (record { last = refl; regions = refl; count = refl; unit = refl }, refl)
 
 refused-stays : (s : State) (c : CommandArgs) → answerNumber (commandCall s c .answer) ≢ 0 → AllStays s (commandCall s c .state)
 unfolding commandCall
@@ -198,7 +201,7 @@ slot-lent s c g h =
     (λ e. absurd (omega (arith, rw (g, e) at h)))
 
 module _ (s : State) (c : SlotArgs) where
-  counts-out : counts (made s (slot c)) ≡ true
+  pub counts-out : counts (made s (slot c)) ≡ true
       → (length (c .image) ≡ imageLength (s .regions) (s .count)) × (longestPacket ≤ length (c .buffer))
   unfolding counts
   counts-out h =
@@ -235,7 +238,7 @@ module _ (D : Demand2) (s : State) (good : goodState s ≡ true) where
   module _ (c : CommandArgs) (bytes : AreBytes (c .packet)) where
     lawful-by : Law (s .places) (s .last) (made s (command c)) (commandCall s c .state .places) (commandCall s c .state .last)
         → Stays s (commandCall s c .state) → Lawful s (command c)
-    lawful-by l y = record { law = l; regions = y .regions; count = y .count; good = D .command-good s c bytes good }
+    lawful-by l y = record { law = l; regions = y .regions; count = y .count; unit = y .unit; good = D .command-good s c bytes good }
 
     -- a command that leaves the places
     lawful-kept : commandCall s c .state .places ≡ s .places → Stays s (commandCall s c .state)
@@ -320,6 +323,7 @@ module _ (D : Demand2) (s : State) (good : goodState s ≡ true) where
               (served-shows s c (slotCall s c) x good (fit .0));
           regions = ap (λ (z : State). z .regions) (x .state);
           count = ap (λ (z : State). z .count) (x .state);
+          unit = ap (λ (z : State). z .unit) (x .state);
           good = D .slot-good s c good;
         }
 
@@ -337,6 +341,7 @@ module _ (D : Demand2) (s : State) (good : goodState s ≡ true) where
           law = kept (ap (λ (z : State). z .places) e) (ap (λ (z : State). z .last) e) (seen-refused (made s (slot c)) n) (none-busy n);
           regions = ap (λ (z : State). z .regions) e;
           count = ap (λ (z : State). z .count) e;
+          unit = ap (λ (z : State). z .unit) e;
           good = D .slot-good s c good;
         }
 
@@ -351,6 +356,14 @@ lends-rest : (c : Call) (cs : List Call) → LendsBytes (c ∷ cs) → LendsByte
 lends-rest (command c) cs b = b .1
 lends-rest (slot c) cs b = b
 
+-- a call that was handed a good state with the table and the unit of the state s
+pub record Handed (s : State) (e : Event) : Type 0 where
+  pub out : e .out ≡ step (e .given) (e .call)
+  pub good : goodState (e .given) ≡ true
+  pub regions : e .given .regions ≡ s .regions
+  pub count : e .given .count ≡ s .count
+  pub unit : e .given .unit ≡ s .unit
+
 module _ (D : Demand2) where
   pub chain : (s : State) (cs : List Call) → goodState s ≡ true → LendsBytes cs → Chain (s .places) (s .last) (events s cs)
   chain s [] g b = done
@@ -358,14 +371,18 @@ module _ (D : Demand2) where
       let f : Lawful s c = lawful D s g c cs b in
       next (step s c .state .places) (step s c .state .last) (f .law) (chain (step s c .state) cs (f .good) (lends-rest c cs b))
 
-  -- every call is handed the table of the first
-  pub same-table : (s : State) (cs : List Call) → goodState s ≡ true → LendsBytes cs → (xs ys : List Event) (e : Event)
-      → events s cs ≡ xs ++ e ∷ ys → (e .given .regions ≡ s .regions) × (e .given .count ≡ s .count)
-  same-table s [] g b xs ys e x = nothing-in xs ys e x
-  same-table s (c ∷ cs) g b [] ys e x =
-      let q : e .given ≡ s = ap (λ (z : Event). z .given) (sym (head-eq x)) in
-      (ap (λ (z : State). z .regions) q, ap (λ (z : State). z .count) q)
-  same-table s (c ∷ cs) g b (y ∷ xs) ys e x =
+  pub handed : (s : State) (cs : List Call) → goodState s ≡ true → LendsBytes cs → (xs ys : List Event) (e : Event)
+      → events s cs ≡ xs ++ e ∷ ys → Handed s e
+  handed s [] g b xs ys e x = nothing-in xs ys e x
+  handed s (c ∷ cs) g b [] ys e x =
+      rw (← head-eq x) record { out = refl; good = g; regions = refl; count = refl; unit = refl }
+  handed s (c ∷ cs) g b (y ∷ xs) ys e x =
       let f : Lawful s c = lawful D s g c cs b in
-      let r = same-table (step s c .state) cs (f .good) (lends-rest c cs b) xs ys e (tail-eq x) in
-      (r .0 ∙ f .regions, r .1 ∙ f .count)
+      let r = handed (step s c .state) cs (f .good) (lends-rest c cs b) xs ys e (tail-eq x) in
+      record {
+        out = r .out;
+        good = r .good;
+        regions = r .regions ∙ f .regions;
+        count = r .count ∙ f .count;
+        unit = r .unit ∙ f .unit;
+      }

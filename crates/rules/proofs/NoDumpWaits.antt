@@ -14,7 +14,7 @@ use Rattle.rules.specs.declared.Region.{Region}
 use Rattle.rules.proofs.Cover.{pieces-cover}
 use Rattle.rules.proofs.AfterPacket.{piece-some}
 use Rattle.rules.proofs.Served.{chain-served}
-use Rattle.rules.proofs.Lawful.{chain, same-table}
+use Rattle.rules.proofs.Lawful.{chain, handed}
 
 -- the table that start-up answered 0 holds
 start-table : (rs : List Region) (n : ℕ) (pools : List Range) (unit : ℕ) → verdictNumber (startUp rs n pools unit .verdict) ≡ 0
@@ -33,9 +33,9 @@ demand-3 D rs n pools unit h calls bytes =
     let good = D .start-good rs n pools unit h in
     let table = start-table rs n pools unit h in (
       piece-size,
-      λ xs ys e x. let r = same-table D s calls good bytes xs ys e x in (r .0 ∙ table .0, r .1 ∙ table .1),
+      λ xs ys e x. let r = handed D s calls good bytes xs ys e x in (r .regions ∙ table .0, r .count ∙ table .1),
       λ before after e t r x a un. (
-        chain-served t r before (rw x at (chain D s calls good bytes)) a un,
+        chain-served t r before (rw x at (chain D s calls good bytes)) a un .1,
         pieces-cover (pieceWords r) (r .words) (piece-some r),
       ),
     )

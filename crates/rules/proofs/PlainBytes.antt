@@ -1,6 +1,5 @@
 -- Packets in plain bytes.
 -- Assumes nothing.
-use mathlib.Core.Logic.{_↔_}
 use mathlib.Core.Path.{_≡_, refl, sym, ap, subst⁻¹, _∙_}
 use mathlib.Core.List.{List, [], _∷_, _++_}
 use Prim.Native.Nat.{ℕ, _+_, _*_, _-_, _/_, _%_, _≤_, _<_, min}
@@ -263,7 +262,7 @@ module _ (s : State) (c : SlotArgs) (fits : SlotFits s c) (x : SlotDone s c (slo
   words = nextWords s (c .image) dump
 
   within : Bounds s c dump
-  within = bounds s c x fits
+  within = bounds s c x (fits .good) (fits .image)
 
   -- word k of the packet is word `sent + k` of the range
   next-word : (k : ℕ) → k < length words → getD words k 0 ≡ getD (wordsOf (s .regions) (s .count) (dump .range) (c .image)) (dump .sent + k) 0
@@ -304,7 +303,7 @@ module _ (s : State) (c : SlotArgs) (fits : SlotFits s c) (x : SlotDone s c (slo
               length-field = ap (λ (n : ℕ). n + 7) (sym (at-two p 4)) ∙ packet-length-field s (c .tick) dump words (b .longest) ∙ sym l;
               identity = let u = b .unit in let t = b .dump .number in omega arith;
             };
-        tick = in-four p 8 _ (be-back 4 (c .tick) (b .tick));
+        tick = in-four p 8 _ (be-back 4 (c .tick) (fits .tick));
         requested = (in-four p 12 _ (be-back 4 (startOf r) (omega arith)), in-four p 16 _ (be-back 4 (r .words) (omega arith)));
         own = (
           in-four p 20 _ (be-back 4 (startOf r + 4 * dump .sent) (omega arith)),

@@ -46,14 +46,15 @@ module _ (t : ℕ) (r : Range) where
       most : (xs ys : List Event) → after ≡ xs ++ ys → length (packets t xs) ≤ packetsDue r
       most xs ys x = omega (arith, bound xs ys (over x) h)
 
-  -- at the acceptance
+  -- at the acceptance: the dump has words, and is served
   began : {ps : List Place} {l : ℕ} {e : Event} {after : List Event} → Chain ps l (e ∷ after) → Accepted t r e
-      → Uncancelled t (packetsDue r) after → Served t r after
+      → Uncancelled t (packetsDue r) after → (0 < r .words) × Served t r after
   began {e = e} (next ps′ l′ (kept x y se id) c) a un = absurd (contra (accepts-it t r e a) (se .accept t))
   began {l = l} {after = after} (next ps′ l′ (accepted p d pl ll hp fr x y po ask se co) c) a un =
       let k : d ≡ newDump t r = ask t r a in
       let kr : d .range ≡ r = ap (λ (z : ActiveDump). z .range) k in
       let kt : d .transaction ≡ t = ap (λ (z : ActiveDump). z .transaction) k in
+      let some : 0 < r .words = rw kr at po in
       let m : Mine t r 0 p ps′ =
       record {
         d = d;
@@ -61,18 +62,18 @@ module _ (t : ℕ) (r : Range) where
         number = kt;
         range = kr;
         sent = ap (λ (z : ActiveDump). z .sent) k ∙ sym (mul-zero (pieceWords r));
-        due = rw mul-zero (rw kr at po);
+        due = rw mul-zero some;
         alone = λ q qp. puts-at (λ (z : Context). busyWith t z ≡ false) x q (λ e′. absurd (qp e′)) (λ _. rw kt at (fr q));
       }
       in
       let nr : Near p l′ ((p + 3 - l) % 4 + 1) 0 = omega arith in
       let un′ : UncancelledFrom t (packetsDue r) 0 after = record { all = λ xs ys e′ q h. omega (arith, un .all xs ys e′ q h) } in
-      watch-served after (watch t r 0 p ((p + 3 - l) % 4 + 1) 0 c m nr un′)
-      (due-before (pieceWords r) (piece-some r) 0 (r .words) (m .due))
+      let due = due-before (pieceWords r) (piece-some r) 0 (r .words) (m .due) in
+      (some, watch-served after (watch t r 0 p ((p + 3 - l) % 4 + 1) 0 c m nr un′) due)
   began {e = e} (next ps′ l′ (cancelled p d hp x y se co) c) a un = absurd (contra (accepts-it t r e a) (se .accept t))
   began {e = e} (next ps′ l′ (served k d kl hp before x y se co sh) c) a un = absurd (contra (accepts-it t r e a) (se .accept t))
 
   pub chain-served : {ps : List Place} {l : ℕ} (before : List Event) {e : Event} {after : List Event} → Chain ps l (before ++ e ∷ after)
-      → Accepted t r e → Uncancelled t (packetsDue r) after → Served t r after
+      → Accepted t r e → Uncancelled t (packetsDue r) after → (0 < r .words) × Served t r after
   chain-served [] c a un = began c a un
   chain-served (b ∷ bs) (next ps′ l′ law c) a un = chain-served bs c a un

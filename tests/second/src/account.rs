@@ -16,6 +16,8 @@ struct Open {
     /// The packets' data, joined; and what the slots' images held, joined.
     joined: Vec<u32>,
     lent: Vec<u32>,
+    /// The packets themselves, for the desk's check.
+    written: Vec<Vec<u8>>,
 }
 
 #[derive(Default, Clone, Copy)]
@@ -102,6 +104,7 @@ impl Account {
                     cancelled: false,
                     joined: vec![],
                     lent: vec![],
+                    written: vec![],
                 });
                 self.sums.accepted += 1;
             }
@@ -123,10 +126,11 @@ impl Account {
         Ok(())
     }
 
-    /// A slot was called with this image and this buffer length; `packet` is what it wrote (empty if nothing).
-    pub fn slot_done(&mut self, image: &[u32], buffer_bytes: usize, packet: &[u8]) -> Result<(), String> {
+    /// A slot was called with this image and this buffer length; `packet` is what it wrote (empty if nothing). The packets of a dump that it ended.
+    pub fn slot_done(&mut self, image: &[u32], buffer_bytes: usize, packet: &[u8]) -> Result<Option<Vec<Vec<u8>>>, String> {
         let counts = image.len() == self.image_words && buffer_bytes >= 4_092;
         let mut writer = None;
+        let mut ended = None;
         if !packet.is_empty() {
             if packet.len() < 28 || packet.len() > 4_092 {
                 return Err(format!("a packet of {} bytes", packet.len()));
@@ -166,12 +170,14 @@ impl Account {
             dump.joined.extend_from_slice(&data);
             dump.lent.extend_from_slice(&held);
             dump.packets += 1;
+            dump.written.push(packet.to_vec());
             self.sums.packets += 1;
             self.sums.largest_wait = self.sums.largest_wait.max(dump.waited + 1);
             dump.waited = 0;
             if dump.packets == dump.packets_due {
                 self.sums.finished += 1;
                 self.sums.most_packets = self.sums.most_packets.max(dump.packets);
+                ended = Some(std::mem::take(&mut dump.written));
             }
             writer = Some(i);
         }
@@ -192,7 +198,7 @@ impl Account {
         } else if writer.is_some() {
             return Err("a slot that does not count wrote a packet".to_string());
         }
-        Ok(())
+        Ok(ended)
     }
 
     /// Ends the account of a dump with this number, or of all at the list's end.

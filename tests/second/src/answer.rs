@@ -141,3 +141,10 @@ pub unsafe extern "C" fn lg_read_packet(
 ) -> u32 {
     by_model::read_packet(borrowed(packet, packet_bytes), borrowed_mut(fields, fields_words), &mut *data_bytes)
 }
+
+/// # Safety
+/// As leatgarnet.h says.
+#[cfg_attr(feature = "export", no_mangle)]
+pub unsafe extern "C" fn lg_check_dump(bytes: *const u8, bytes_length: usize, lengths: *const u8, lengths_bytes: usize) -> u32 {
+    by_model::check_dump(borrowed(bytes, bytes_length), borrowed(lengths, lengths_bytes))
+}

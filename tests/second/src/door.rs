@@ -343,6 +343,10 @@ pub mod by_model {
             }
         }
     }
+
+    pub fn check_dump(bytes: &[u8], lengths: &[u8]) -> u32 {
+        crate::model::check_dump(bytes, lengths)
+    }
 }
 
 // ------------------------------------------------------------------------------------------------------------------------------------
@@ -408,6 +412,7 @@ mod c {
             fields_words: usize,
             data_bytes: *mut u32,
         ) -> u32;
+        pub fn lg_check_dump(bytes: *const u8, bytes_length: usize, lengths: *const u8, lengths_bytes: usize) -> u32;
     }
 }
 
@@ -415,7 +420,7 @@ mod c {
 use crate::answer as c;
 
 #[cfg(any(feature = "door", feature = "self"))]
-pub use wrappers::{command, commands, read_command, read_packet, slot, start_up, write_command};
+pub use wrappers::{check_dump, command, commands, read_command, read_packet, slot, start_up, write_command};
 
 #[cfg(any(feature = "door", feature = "self"))]
 mod wrappers {
@@ -448,7 +453,7 @@ mod wrappers {
         }
     }
 
-    // SAFETY, of all seven: each pointer comes with the length of the slice that it comes from, the slices do not overlap (the borrow rules), and
+    // SAFETY, of all eight: each pointer comes with the length of the slice that it comes from, the slices do not overlap (the borrow rules), and
     // the C functions keep no pointer.
 
     pub fn start_up(table: &[u32], state: &mut [u32]) -> u32 {
@@ -527,5 +532,9 @@ mod wrappers {
 
     pub fn read_packet(packet: &[u8], fields: &mut [u32], data_bytes: &mut u32) -> u32 {
         unsafe { c::lg_read_packet(lent(packet), packet.len(), lent_mut(fields), fields.len(), data_bytes) }
+    }
+
+    pub fn check_dump(bytes: &[u8], lengths: &[u8]) -> u32 {
+        unsafe { c::lg_check_dump(lent(bytes), bytes.len(), lent(lengths), lengths.len()) }
     }
 }

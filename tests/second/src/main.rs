@@ -3,10 +3,12 @@
 //! Drives the first implementation (through the C door) and the model on the same input and compares all that comes out.
 
 mod account;
+mod desk;
 mod make;
 mod rng;
 
 use account::{address_by_name, word, Account, Sums};
+use desk::{check_call, own_dump_call, ANYTHING, CHECKS};
 use make::*;
 use rng::Rng;
 use second::door::{self, by_model, Answer, COMMAND_WORDS, STATE_WORDS};
@@ -28,6 +30,7 @@ struct Outcome {
     words: Vec<u32>,
     fixed: Vec<u32>,
     packet: Vec<u8>,
+    list: Vec<u8>,
     starts: Vec<u32>,
     lengths: Vec<u32>,
     answers: Vec<Answer>,
@@ -45,6 +48,7 @@ fn ask_model(call: &Call) -> Outcome {
         words: call.words.clone(),
         fixed: call.fixed.clone(),
         packet: call.packet.clone(),
+        list: call.list.clone(),
         starts: call.starts.clone(),
         lengths: call.lengths.clone(),
         answers: call.answers.clone(),
@@ -70,6 +74,7 @@ fn ask_model(call: &Call) -> Outcome {
         Kind::WriteCommand => by_model::write_command(&o.fixed, &mut o.buffer, &mut o.length),
         Kind::ReadCommand => by_model::read_command(&o.packet, &mut o.words),
         Kind::ReadPacket => by_model::read_packet(&o.packet, &mut o.words, &mut o.length),
+        Kind::CheckDump => by_model::check_dump(&o.packet, &o.list),
     };
     o
 }
@@ -113,6 +118,7 @@ fn ask_door(call: &Call) -> Outcome {
     let mut words = Guarded::new(&call.words, 0xC0DE_D00D);
     let mut fixed = Guarded::new(&call.fixed, 0xC0DE_D00D);
     let mut packet = Guarded::new(&call.packet, 0xD7);
+    let mut list = Guarded::new(&call.list, 0xD7);
     let mut starts = Guarded::new(&call.starts, 0xC0DE_D00D);
     let mut lengths = Guarded::new(&call.lengths, 0xC0DE_D00D);
     let mut answers = Guarded::new(&call.answers, Answer { number: 0xC0DE_D00D, length: 0xC0DE_D00D });
@@ -137,12 +143,14 @@ fn ask_door(call: &Call) -> Outcome {
         Kind::WriteCommand => door::write_command(fixed.part(), buffer.part(), &mut length),
         Kind::ReadCommand => door::read_command(packet.part(), words.part()),
         Kind::ReadPacket => door::read_packet(packet.part(), words.part(), &mut length),
+        Kind::CheckDump => door::check_dump(packet.part(), list.part()),
     };
     let mut overrun = "";
     for (name, broken) in [
         ("block", words.broken()),
         ("read-only block", fixed.broken()),
         ("packet", packet.broken()),
+        ("list", list.broken()),
         ("starts", starts.broken()),
         ("lengths", lengths.broken()),
         ("answer records", answers.broken()),
@@ -160,6 +168,7 @@ fn ask_door(call: &Call) -> Outcome {
         words: words.take(),
         fixed: fixed.take(),
         packet: packet.take(),
+        list: list.take(),
         starts: starts.take(),
         lengths: lengths.take(),
         answers: answers.take(),
@@ -202,6 +211,7 @@ fn difference(model: &Outcome, door: &Outcome) -> Option<String> {
         .or_else(|| first_difference("buffer", &model.buffer, &door.buffer))
         .or_else(|| first_difference("read-only block", &model.fixed, &door.fixed))
         .or_else(|| first_difference("packet", &model.packet, &door.packet))
+        .or_else(|| first_difference("list", &model.list, &door.list))
         .or_else(|| first_difference("starts", &model.starts, &door.starts))
         .or_else(|| first_difference("lengths", &model.lengths, &door.lengths))
         .or_else(|| first_difference("symbols", &model.symbols, &door.symbols))
@@ -332,6 +342,9 @@ struct Run {
     pools: [u64; POOLS.len()],
     /// Ranges that got the number of their kind, by code.
     ranges: [[u64; RANGES.len()]; RANGE_CODES.len()],
+    /// Checks of a dump by what was handed over; and those that told of a bad packet or a missing piece, and of which.
+    checks: [u64; CHECKS.len()],
+    told: [(u64, u32); 2],
     sums: Sums,
 }
 
@@ -361,6 +374,9 @@ fn print_call(call: &Call) {
     println!("  block, {} words:{}", call.words.len(), hex_words(&call.words));
     println!("  read-only block, {} words:{}", call.fixed.len(), hex_words(&call.fixed));
     println!("  packet, {} bytes:{}", call.packet.len(), hex_bytes(shown(&call.packet)));
+    if call.kind == Kind::CheckDump {
+        println!("  list of lengths, {} bytes ({}):{}", call.list.len(), CHECKS[call.check], hex_bytes(&call.list));
+    }
     if call.kind == Kind::Batch {
         println!("  starts, {}:{}", call.starts.len(), hex_words(&call.starts));
         println!("  lengths, {}:{}", call.lengths.len(), hex_words(&call.lengths));
@@ -415,6 +431,8 @@ impl Run {
             done: [0; CODES.len()],
             pools: [0; POOLS.len()],
             ranges: [[0; RANGES.len()]; RANGE_CODES.len()],
+            checks: [0; CHECKS.len()],
+            told: [(0, 0); 2],
             sums: Sums::default(),
         }
     }
@@ -445,7 +463,15 @@ impl Run {
             exit(1);
         }
         let kind = KINDS.iter().position(|&kind| kind == call.kind).unwrap_or(0);
-        self.table[kind][door.number as usize] += 1;
+        if door.number < 65_536 {
+            self.table[kind][door.number as usize] += 1;
+        } else {
+            let told = &mut self.told[usize::from(door.number >= 131_072)];
+            *told = (told.0 + 1, told.1.max(door.number % 65_536));
+        }
+        if call.kind == Kind::CheckDump {
+            self.checks[call.check] += 1;
+        }
         if call.kind == Kind::Command {
             self.count_command(call, &call.packet, door.number, &door.buffer);
         }
@@ -491,7 +517,7 @@ impl Run {
 
     /// One call by itself, of the kind and aim that the turn says; and what follows from it.
     fn single(&mut self, rng: &mut Rng, turn: u64) {
-        let (aim, part) = (turn / 23, turn % 23);
+        let (aim, part) = (turn / 25, turn % 25);
         match part {
             0 | 1 => {
                 let call = start_up_call(rng, 2 * aim + part);
@@ -557,8 +583,12 @@ impl Run {
                 let call = aimed_batch(rng, aims[(2 * aim + part - 20) as usize % 7]);
                 self.call(&call);
             }
-            _ => {
+            22 => {
                 let call = free_batch(rng);
+                self.call(&call);
+            }
+            _ => {
+                let call = check_call(rng, (2 * aim + part - 23) as usize % (ANYTHING + 1));
                 self.call(&call);
             }
         }
@@ -709,7 +739,11 @@ impl Run {
                 if let Some(fault) = fault.as_deref_mut() {
                     fault.slot(&call, &mut packet, &setup);
                 }
-                account.slot_done(&call.image, call.buffer.len(), &packet)?;
+                if let Some(packets) = account.slot_done(&call.image, call.buffer.len(), &packet)? {
+                    // The dump is whole: the desk's check says so, in whatever order its packets come.
+                    let check = own_dump_call(rng, packets);
+                    self.call(&check);
+                }
             } else if outcome.number == 0 {
                 let accepted: Vec<&[u8]> = if call.kind == Kind::Batch {
                     (0..call.starts.len()).filter(|&i| outcome.answers[i].number == 0).map(|i| item_of(&call, i)).collect()
@@ -777,6 +811,8 @@ impl Run {
         let list = |names: &[&str], counts: &[u64]| -> String {
             names.iter().zip(counts).map(|(name, n)| format!("{name} {n}")).collect::<Vec<String>>().join(", ")
         };
+        let [bad, missing] = self.told;
+        println!("dumps checked: {}; a bad packet told {} times, up to packet {}; a missing piece {} times, up to piece {}", list(&CHECKS, &self.checks), bad.0, bad.1, missing.0, missing.1);
         println!("commands done: {}", list(&CODES.map(|code| code.1), &self.done));
         println!("pools told: {}", list(&POOLS, &self.pools));
         for (k, counts) in RANGE_CODES.iter().zip(&self.ranges) {
@@ -785,7 +821,7 @@ impl Run {
         }
         println!("symbol tables that codes 8 and 9 tested: {}", list(&TABLES[..NO_TABLE], &self.tables));
         println!("no symbol tables: {}; table or none: {}", list(&TABLES[NO_TABLE..DISTURBED], &self.tables[NO_TABLE..]), self.tables[DISTURBED]);
-        complete && self.done.iter().chain(&self.pools).chain(&self.tables).chain(self.ranges.iter().flatten()).all(|&n| n > 0)
+        complete && self.done.iter().chain(&self.pools).chain(&self.tables).chain(&self.checks).chain(self.ranges.iter().flatten()).all(|&n| n > 0)
     }
 }
 
@@ -1094,14 +1130,15 @@ fn self_test(run: &mut Run) -> bool {
     let mut caught = 0u64;
     let mut by_part = std::collections::BTreeMap::<&str, (u64, u64)>::new();
     for turn in 0..4_000u64 {
-        let call = match turn % 7 {
-            0 => start_up_call(&mut rng, turn / 7),
-            1 => aimed_command(&mut rng, COMMAND_NUMBERS[(turn / 7) as usize % COMMAND_NUMBERS.len()]),
-            2 => aimed_slot(&mut rng, [0, 1, 2, 3, 16][(turn / 7 % 5) as usize]),
-            3 => write_call(&mut rng, [0, 3, 6, 9, 33][(turn / 7 % 5) as usize]),
-            4 => read_command_call(&mut rng, [0, 3, 4, 5, 6, 7, 9][(turn / 7 % 7) as usize]),
-            5 => aimed_batch(&mut rng, [0, 1, 2, 3][(turn / 7 % 4) as usize]),
-            _ => read_packet_call(&mut rng, [0, 3, 4, 5, 7, 9][(turn / 7 % 6) as usize], None),
+        let call = match turn % 8 {
+            0 => start_up_call(&mut rng, turn / 8),
+            1 => aimed_command(&mut rng, COMMAND_NUMBERS[(turn / 8) as usize % COMMAND_NUMBERS.len()]),
+            2 => aimed_slot(&mut rng, [0, 1, 2, 3, 16][(turn / 8 % 5) as usize]),
+            3 => write_call(&mut rng, [0, 3, 6, 9, 33][(turn / 8 % 5) as usize]),
+            4 => read_command_call(&mut rng, [0, 3, 4, 5, 6, 7, 9][(turn / 8 % 7) as usize]),
+            5 => aimed_batch(&mut rng, [0, 1, 2, 3][(turn / 8 % 4) as usize]),
+            6 => read_packet_call(&mut rng, [0, 3, 4, 5, 7, 9][(turn / 8 % 6) as usize], None),
+            _ => check_call(&mut rng, (turn / 8) as usize % (ANYTHING + 1)),
         };
         let mut model = ask_model(&call);
         let door = ask_door(&call);
@@ -1127,7 +1164,7 @@ fn self_test(run: &mut Run) -> bool {
         try_one("length", bad);
         for part in [
             "block", "image", "buffer", "read-only block", "packet", "last byte of buffer", "beside a buffer", "nothing done", "record", "last record",
-            "starts", "lengths", "symbols",
+            "starts", "lengths", "symbols", "list",
         ] {
             let mut bad = door.clone();
             match part {
@@ -1170,6 +1207,10 @@ fn self_test(run: &mut Run) -> bool {
                 "lengths" if !bad.lengths.is_empty() => {
                     let at = rng.below(bad.lengths.len() as u64) as usize;
                     bad.lengths[at] ^= 1 << rng.below(32);
+                }
+                "list" if !bad.list.is_empty() => {
+                    let at = rng.below(bad.list.len() as u64) as usize;
+                    bad.list[at] ^= 1 << rng.below(8);
                 }
                 "symbols" if !bad.symbols.is_empty() => {
                     let at = rng.below(bad.symbols.len() as u64) as usize;

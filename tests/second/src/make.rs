@@ -14,10 +14,19 @@ pub enum Kind {
     WriteCommand,
     ReadCommand,
     ReadPacket,
+    CheckDump,
 }
 
-pub const KINDS: [Kind; 7] =
-    [Kind::StartUp, Kind::Command, Kind::Batch, Kind::Slot, Kind::WriteCommand, Kind::ReadCommand, Kind::ReadPacket];
+pub const KINDS: [Kind; 8] = [
+    Kind::StartUp,
+    Kind::Command,
+    Kind::Batch,
+    Kind::Slot,
+    Kind::WriteCommand,
+    Kind::ReadCommand,
+    Kind::ReadPacket,
+    Kind::CheckDump,
+];
 
 /// The numbers that an item of a batch can get: its 32 bytes of reply buffer are always there.
 pub const ITEM_NUMBERS: [u32; 18] = [0, 1, 2, 4, 5, 6, 7, 8, 9, 10, 11, 12, 13, 14, 15, 17, 18, 19];
@@ -35,10 +44,11 @@ impl Kind {
             Kind::WriteCommand => "write command",
             Kind::ReadCommand => "read command",
             Kind::ReadPacket => "read packet",
+            Kind::CheckDump => "check dump",
         }
     }
 
-    /// The numbers that the call can give.
+    /// The numbers that the call can give; of the check of a dump, those below 65,536.
     pub fn numbers(self) -> &'static [u32] {
         match self {
             Kind::StartUp => &[0, 17],
@@ -48,6 +58,7 @@ impl Kind {
             Kind::WriteCommand => &[0, 3, 6, 9],
             Kind::ReadCommand => &[0, 3, 4, 5, 6, 7, 9],
             Kind::ReadPacket => &[0, 3, 4, 5, 7, 9],
+            Kind::CheckDump => &[0, 3],
         }
     }
 }
@@ -60,8 +71,11 @@ pub struct Call {
     pub words: Vec<u32>,
     /// The block that the call only reads: start-up's table, the writer's command.
     pub fixed: Vec<u32>,
-    /// The packet that the call reads, or the bytes of a batch.
+    /// The packet that the call reads, or the bytes of a batch or of a dump to check.
     pub packet: Vec<u8>,
+    /// The lengths of a dump's packets, two bytes each, and which of `CHECKS` they are.
+    pub list: Vec<u8>,
+    pub check: usize,
     /// A batch's lists, and its answer records.
     pub starts: Vec<u32>,
     pub lengths: Vec<u32>,
@@ -88,6 +102,8 @@ impl Call {
             words: vec![],
             fixed: vec![],
             packet: vec![],
+            list: vec![],
+            check: 0,
             starts: vec![],
             lengths: vec![],
             answers: vec![],
@@ -260,7 +276,7 @@ pub fn busy_transactions(state: &State) -> Vec<u32> {
     state.places.iter().filter_map(|place| if let DumpPlace::Busy(dump) = place { Some(dump.transaction) } else { None }).collect()
 }
 
-fn count(rng: &mut Rng, most: u32) -> u32 {
+pub fn count(rng: &mut Rng, most: u32) -> u32 {
     match rng.below(4) {
         0 => most,
         1 => rng.pick(&[0, 1, most - 1]),
@@ -2310,7 +2326,7 @@ pub fn read_command_call(rng: &mut Rng, aim: u32) -> Call {
 }
 
 /// The fields of a dump packet, as eight numbers: count, unit, transaction, tick, address, words, data address, data words.
-fn raw_dump_packet(rng: &mut Rng, f: &[u32; 8], bytes: usize) -> Vec<u8> {
+pub fn raw_dump_packet(rng: &mut Rng, f: &[u32; 8], bytes: usize) -> Vec<u8> {
     let mut packet = vec![0x03, 0x14, 0xC0 | (f[0] >> 8) as u8, f[0] as u8, 0, 0];
     packet.extend_from_slice(&((f[1] << 12 | f[2]) as u16).to_be_bytes());
     for field in &f[3..8] {

@@ -1080,3 +1080,62 @@ pub fn read_packet(packet: &[u8]) -> Result<(PacketFields, &[u8]), u32> {
     }
     Ok((fields, &packet[PACKET_HEADER_BYTES..]))
 }
+
+// ------------------------------------------------------------------------------------------------------------------------------------
+// The ground desk's check (paper 02, A6)
+// ------------------------------------------------------------------------------------------------------------------------------------
+
+const DESK_PACKETS_MOST: usize = 65;
+const BAD_PACKET: u32 = 65_536;
+const MISSING_PIECE: u32 = 131_072;
+
+fn agree(first: &PacketFields, other: &PacketFields) -> bool {
+    first.unit == other.unit
+        && first.transaction == other.transaction
+        && first.requested_address == other.requested_address
+        && first.requested_words == other.requested_words
+}
+
+/// Whether packets, back to back and in any order, are one whole dump. In the list each length has two bytes.
+pub fn check_dump(bytes: &[u8], list: &[u8]) -> u32 {
+    if list.len() % 2 != 0 || list.len() > 2 * DESK_PACKETS_MOST {
+        return 3;
+    }
+    let ends: Vec<u64> = list
+        .chunks(2)
+        .scan(0, |end, two| {
+            *end += 256 * u64::from(two[0]) + u64::from(two[1]);
+            Some(*end)
+        })
+        .collect();
+    if ends.last().copied().unwrap_or(0) < bytes.len() as u64 {
+        return 3;
+    }
+    let mut good: Vec<PacketFields> = vec![];
+    for (number, end) in ends.iter().enumerate() {
+        let start = if number == 0 { 0 } else { ends[number - 1] };
+        let there = *end <= bytes.len() as u64;
+        let packet = if there { read_packet(&bytes[start as usize..*end as usize]) } else { Err(4) };
+        let fields = match packet {
+            Ok((fields, _)) => fields,
+            Err(_) => return BAD_PACKET + number as u32,
+        };
+        // In one request a piece is told by the address of its data.
+        if good.iter().any(|earlier| !agree(earlier, &fields) || earlier.data_address == fields.data_address) {
+            return BAD_PACKET + number as u32;
+        }
+        good.push(fields);
+    }
+    let Some(first) = good.first() else {
+        return MISSING_PIECE;
+    };
+    let mut piece = 0;
+    while CUT * piece < first.requested_words {
+        let address = end_of(first.requested_address, CUT * piece);
+        if !good.iter().any(|packet| u64::from(packet.data_address.0) == address) {
+            return MISSING_PIECE + piece;
+        }
+        piece += 1;
+    }
+    0
+}

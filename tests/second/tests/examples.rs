@@ -1,4 +1,4 @@
-//! "Checked examples" E1 to E12 of paper 01, and requests A1 (a batch), A2 (symbol names), A4 (usable words) and A5 (10 and 19), against the model alone.
+//! "Checked examples" E1 to E12 of paper 01, and requests A1 (a batch), A2 (symbol names), A4 (usable words), A5 (10 and 19) and A6 (whole dumps), against the model alone.
 use second::model::*;
 
 const BOTH: (bool, bool) = (true, true);
@@ -658,4 +658,77 @@ fn a5_order_of_tests() {
         assert_eq!(give(&mut state, &dump(transaction, 5, 0x1010), &mut image), 19);
         assert_eq!(state.refused, refused);
     }
+}
+
+/// The packets of a dump, as slots write them.
+fn packets_of(transaction: u32, words: u32) -> Vec<Vec<u8>> {
+    let mut state = started(&[(0x1000, words, BOTH)], [(0, 0); 2]);
+    let mut image: Vec<u32> = (0..words).collect();
+    assert_eq!(give(&mut state, &dump(transaction, words, 0x1000), &mut image), 0);
+    (0..words.div_ceil(1_016))
+        .map(|tick| {
+            let (number, packet) = slot(&mut state, tick, &image);
+            assert_eq!(number, 0);
+            packet
+        })
+        .collect()
+}
+
+/// The check of these packets, as they are handed over.
+fn check(packets: &[&[u8]]) -> u32 {
+    let list: Vec<u8> = packets.iter().flat_map(|packet| (packet.len() as u16).to_be_bytes()).collect();
+    check_dump(&packets.concat(), &list)
+}
+
+#[test]
+fn a6_whole_dumps() {
+    for words in [1, 1_016, 1_017, 2_033, 65_535] {
+        let packets = packets_of(0x123, words);
+        let mut all: Vec<&[u8]> = packets.iter().map(|packet| &packet[..]).collect();
+        assert_eq!(check(&all), 0);
+        all.reverse();
+        assert_eq!(check(&all), 0);
+        all.rotate_left(packets.len() / 2);
+        assert_eq!(check(&all), 0);
+        // Without the packet at i, the piece that it has.
+        for i in 0..packets.len() {
+            let rest: Vec<&[u8]> = (0..packets.len()).filter(|&k| k != i).map(|k| &packets[k][..]).collect();
+            assert_eq!(check(&rest), 131_072 + if rest.is_empty() { 0 } else { i as u32 });
+        }
+    }
+}
+
+#[test]
+fn a6_bad_packets() {
+    let (a, b, other) = (packets_of(0x123, 3_000), packets_of(0x124, 3_000), packets_of(0x123, 2_999));
+    assert_eq!(check(&[&a[0], &a[1], &a[1], &a[2]]), 65_538);
+    assert_eq!(check(&[&a[0], &b[1], &a[2]]), 65_537);
+    assert_eq!(check(&[&b[0], &a[1], &a[2]]), 65_537);
+    assert_eq!(check(&[&a[0], &other[1], &a[2]]), 65_537);
+    assert_eq!(check(&[&a[0], &a[1], &a[2][..100]]), 65_538);
+    // The first bad one, whatever is bad or missing after it.
+    assert_eq!(check(&[&a[2], &a[2], &b[0]]), 65_537);
+}
+
+#[test]
+fn a6_lists() {
+    let e2 = bytes("03 14 C0 00 00 1D 21 23 00 00 00 05 00 00 10 04 00 00 00 02 00 00 10 04 00 00 00 02 22 22 22 22 33 33 33 33");
+    for (list, number) in [
+        ("00 24", 0),
+        ("00 24 00", 3),
+        ("00 24 00 24", 65_537),
+        ("00 24 00 00", 65_537),
+        ("00 00 00 24", 65_536),
+        ("00 23", 3),
+        ("00 25", 65_536),
+        ("FF FF", 65_536),
+        ("FF FF FF FF", 65_536),
+        ("", 3),
+    ] {
+        assert_eq!(check_dump(&e2, &bytes(list)), number, "{list}");
+    }
+    assert_eq!(check_dump(&[], &[]), 131_072);
+    assert_eq!(check_dump(&[], &[0]), 3);
+    assert_eq!(check_dump(&[], &[0; 130]), 65_536);
+    assert_eq!(check_dump(&[], &[0; 132]), 3);
 }

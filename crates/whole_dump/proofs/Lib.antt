@@ -1,0 +1,10 @@
+pub mod Tests
+pub mod Numbers
+pub mod Orders
+pub mod Handed
+pub mod Pieces
+pub mod Whole
+pub mod OverPackets
+pub mod FromCalls
+pub mod HeadersAlone
+pub mod Examples
