@@ -7,9 +7,7 @@ ghost use lib.ListN.{length};
 ghost use Rattle.rules.specs.Regions.{imageLength};
 ghost use Rattle.rules.specs.States.{poolAt, goodState};
 ghost use Rattle.rules.specs.Commands.{returned, setContext, changed, acceptedMore, commandCall};
-ghost use Rattle.opening.specs.declared.Opened.the-variants.{Open};
-ghost use Rattle.opening.specs.Opening.{find};
-ghost use Rattle.decide.specs.Decisions.{byOrder, decision, stateAfter};
+ghost use Rattle.decide.specs.Decisions.{byTask, decision, stateAfter};
 use decide::Decision;
 use decide::Told;
 use decide::answer_of;
@@ -19,14 +17,11 @@ use decide::is_counted;
 use decide::load;
 use decide::pool_statistics;
 use decide::write_out;
-use opening::Opened;
-use opening::Order;
 use opening::opened_by;
+use packet::transaction_of;
 use places::first_idle;
 use places::first_with;
 use places::set_context;
-use regions::Found;
-use regions::find_region;
 use rules::Address;
 use rules::Context;
 use rules::Header;
@@ -35,15 +30,11 @@ use rules::Refusal;
 use rules::Returned;
 use rules::State;
 use rules::Task;
+use state::find;
 use state::good_words;
+use state::index;
 use symbols::Known;
-
-fn find(s: State, a: Range) -> Found
-    ensures { λ f. ⌜ (goodState s ≡ true → f ≡ find s a) ⌝ }
-{
-    let rs = s.regions;
-    find_region(rs, s.count, a)
-}
+use tasks::Sought;
 
 // The range of pool i; there is none past the second.
 fn pool_at(pools: [Range; 2], i: u16) -> Range
@@ -61,17 +52,18 @@ fn pool_at(pools: [Range; 2], i: u16) -> Range
 }
 
 // The decision on a task in a good state, by the facts that this task asks for.
-fn by_task(s: State, o: Order, image: &[u32]) -> Decision
-    ensures { λ d. ⌜ (goodState s ≡ true → d ≡ byOrder s (now (image .entry)) (Open o)) ⌝ }
+fn by_task(s: State, t: u16, k: Task, image: &[u32]) -> Decision
+    ensures { λ d. ⌜ (goodState s ≡ true → d ≡ byTask s (now (image .entry)) t k) ⌝ }
 {
-    let k = o.task;
-    let t = o.transaction;
     let ps = s.places;
     match k {
         Task::Nothing => Decision::Refuse(Refusal::UnknownCode),
         Task::DumpRange(a) => dump(t, a, find(s, a), first_with(ps, t, 4), first_idle(ps)),
         Task::CancelDump => cancel(first_with(ps, t, 4)),
-        Task::LoadRange(a) => load(a, find(s, a)),
+        Task::LoadRange(a) => {
+            let found = find(s, a);
+            load(a, found, index(s, a, found))
+        }
         Task::CountPool(i) => {
             let pools = s.pools;
             let pool = pool_at(pools, i);
@@ -80,7 +72,8 @@ fn by_task(s: State, o: Order, image: &[u32]) -> Decision
                 unit: s.unit,
                 transaction: t,
             };
-            pool_statistics(header, i, pool, find(s, pool), image)
+            let found = find(s, pool);
+            pool_statistics(header, i, pool, found, index(s, pool, found), image)
         }
         Task::TellValue(v) => {
             let header = Header {
@@ -104,7 +97,7 @@ fn decide(
 ) -> Decision
     ensures { λ d. ⌜ ((bytes : List ℕ) → good ≡ cond (goodState s) (imageLength (s .regions) (s .count)) 0 → length bytes ≡ reply → d ≡ decision s (record { packet = now (packet .entry); symbols = now (symbols .entry); image = now (image .entry); reply = bytes })) ⌝ }
 {
-    let opened = opened_by(
+    let sought = opened_by(
         good,
         image.len(),
         reply,
@@ -113,9 +106,9 @@ fn decide(
         Known::Untested,
         s.unit,
     );
-    match opened {
-        Opened::Shut(r) => Decision::Refuse(r),
-        Opened::Open(o) => by_task(s, o, image),
+    match sought {
+        Sought::Denied(r) => Decision::Refuse(r),
+        Sought::Asked(k) => by_task(s, transaction_of(packet), k, image),
     }
 }
 

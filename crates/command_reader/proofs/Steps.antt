@@ -1,82 +1,65 @@
 -- The command reader reads as a box of the packet's own unit does, and then tests number 9; its words go with its answer.
 -- Assumes nothing.
 use mathlib.Core.Path.{_≡_, refl, sym, ap, _∙_}
-use mathlib.Core.Bool.{Bool, true, false, _&&_, not, cond, and-false}
+use mathlib.Core.Bool.{Bool, true, false, _&&_}
 use mathlib.Core.List.{List, [], _∷_, _++_}
 use Prim.Native.Nat.{ℕ}
 use lib.Dec.{eqb}
-use lib.ListN.{length, take}
-use borrow.Author.Tests.{eq-eqb, not-true, not-false}
+use lib.ListN.{length, take, getD}
 use Rattle.lists.proofs.Tests.{either}
 use Rattle.lists.specs.Splice.{splice}
-use Rattle.wire.specs.Bytes.{wordsAt}
+use Rattle.wire.specs.Bytes.{beAt, wordsAt}
 use Rattle.rules.specs.Results.{lowest}
-use Rattle.rules.specs.Packets.{apidOf, commandApid, wellFormed, commandUnit, decode, dataWords, packetLength, fieldRules, zeroRules}
+use Rattle.rules.specs.Packets.{apidOf, commandApid, wellFormed, decode, dataWords, packetLength, fieldRules, zeroRules}
 use Rattle.rules.specs.Ground.{noWords, wordsBeside, readerRows, fieldsRead, concludeRead, readCommand}
 use Rattle.rules.specs.declared.Command.{Command}
 use Rattle.rules.specs.declared.Command.the-variants.{Dump, Cancel, Load, PoolStatistics, SymbolValue, DumpSymbol}
 use Rattle.rules.specs.declared.Decoded.{Decoded}
 use Rattle.rules.specs.declared.Decoded.the-variants.{Unknown, Known}
 use Rattle.rules.specs.declared.Reading.{Reading}
-use Rattle.rules.specs.declared.Reading.the-variants.{Unread, Read}
-use Rattle.rules.specs.declared.Refusal.{Refusal}
-use Rattle.rules.specs.declared.Refusal.the-variants.{BadField}
+use Rattle.rules.specs.declared.Reading.the-variants.{Read}
 use Rattle.rules.specs.declared.Telecommand.{Telecommand}
 use Rattle.rules.specs.declared.Verdict.{Verdict}
 use Rattle.rules.specs.declared.Verdict.the-variants.{Accepted, Rejected}
-use Rattle.packet.specs.declared.Frame.{Frame}
-use Rattle.packet.specs.Frame.{frameRows, frameOf, framedOf, readBy}
-use Rattle.packet.proofs.Steps.{by-frame}
+use Rattle.packet.specs.Frame.{headedOf}
+use Rattle.command_reader.specs.Read.{readAs, readBy}
+use Rattle.rules.specs.declared.SymbolRequest.{SymbolRequest}
 use Rattle.command_reader.specs.Beside.{wordsWith}
 
--- number 9 as the reader tests it, of what a box reads
-abbrev ruled : List ℕ → Reading → Reading
-ruled p (Unread r) = Unread r
-ruled p (Read f) = cond (fieldRules (f .command) && zeroRules p (f .command)) (Read f) (Unread BadField)
+-- WHAT THE TABLE OF ITS ROWS GIVES
 
 module _ (p : List ℕ) where
-  -- number 8 is never given
-  own-unit : eqb (commandUnit p) (commandUnit p) ≡ true
-  own-unit = eq-eqb (commandUnit p) (commandUnit p) refl
-
-  decoded-same : wellFormed p ≡ true → eqb (apidOf p) commandApid ≡ true → (d : Decoded) → decode p ≡ d
-      → ruled p (frameOf p (commandUnit p)) ≡ readCommand p .reading
-  unfolding frameOf frameRows readCommand readerRows lowest
+  -- for a packet that passed 4 and 5
+  decoded-same : wellFormed p ≡ true → eqb (apidOf p) commandApid ≡ true → (d : Decoded) → decode p ≡ d → readAs p d ≡ readCommand p .reading
+  unfolding readCommand readerRows lowest
   decoded-same w a Unknown e = rw (w, a, e)
   decoded-same w a (Known k) e =
       rw (w, a, e)
       (either (eqb (length p) (packetLength k))
-      (λ l. rw (l, own-unit, e) (either (fieldRules k && zeroRules p k) (λ f. rw (f, e)) (λ f. rw f)))
+      (λ l. rw l (either (fieldRules k && zeroRules p k) (λ f. rw (f, e)) (λ f. rw f)))
       (λ l. rw l))
 
-  read-by-own-unit : ruled p (frameOf p (commandUnit p)) ≡ readCommand p .reading
-  unfolding frameOf frameRows readCommand readerRows lowest
-  read-by-own-unit =
+  malformed : wellFormed p ≡ false → readBy p (headedOf p) ≡ readCommand p .reading
+  unfolding readCommand readerRows lowest headedOf
+  malformed w = rw w
+
+  other-apid : wellFormed p ≡ true → eqb (apidOf p) commandApid ≡ false → readBy p (headedOf p) ≡ readCommand p .reading
+  unfolding readCommand readerRows lowest headedOf
+  other-apid w a = rw (w, a)
+
+  headed-right : wellFormed p ≡ true → eqb (apidOf p) commandApid ≡ true → headedOf p ≡ Accepted
+  unfolding headedOf
+  headed-right w a = rw (w, a)
+
+  pub reading-is : readBy p (headedOf p) ≡ readCommand p .reading
+  reading-is =
       either (wellFormed p)
-      (λ w. either (eqb (apidOf p) commandApid) (λ a. decoded-same w a (decode p) refl) (λ a. rw (w, a)))
-      (λ w. rw w)
+      (λ w. either (eqb (apidOf p) commandApid) (λ a. ap (readBy p) (headed-right w a) ∙ decoded-same w a (decode p) refl) (λ a. other-apid w a))
+      (λ w. malformed w)
 
--- what a box of the packet's own unit reads, and then the rules
-module _ (p : List ℕ) (unit : ℕ) (f : Frame) (r : Reading) (own : unit ≡ commandUnit p) (e : f ≡ framedOf p unit) (g : r ≡ readBy p f) where
-  framed : ruled p r ≡ readCommand p .reading
-  framed = ap (ruled p) (by-frame p unit f r e g ∙ ap (frameOf p) own) ∙ read-by-own-unit p
-
-  pub stays-unread : (x : Refusal) → r ≡ Unread x → Unread x ≡ readCommand p .reading
-  stays-unread x u = ap (ruled p) (sym u) ∙ framed
-
-  by-rules : (t : Telecommand) → r ≡ Read t
-      → cond (fieldRules (t .command) && zeroRules p (t .command)) (Read t) (Unread BadField) ≡ readCommand p .reading
-  by-rules t u = ap (ruled p) (sym u) ∙ framed
-
-  pub bad-field : (t : Telecommand) (a : Bool) → r ≡ Read t → a ≡ fieldRules (t .command) → not a ≡ true → Unread BadField ≡ readCommand p .reading
-  bad-field t a u ea h = rw (sym ea ∙ not-true a h) at (by-rules t u)
-
-  pub bad-bits : (t : Telecommand) (b : Bool) → r ≡ Read t → b ≡ zeroRules p (t .command) → not b ≡ true → Unread BadField ≡ readCommand p .reading
-  bad-bits t b u eb h = rw (sym eb ∙ not-true b h, and-false (fieldRules (t .command))) at (by-rules t u)
-
-  pub within-rules : (t : Telecommand) (a b : Bool) → r ≡ Read t → a ≡ fieldRules (t .command) → not a ≡ false
-      → b ≡ zeroRules p (t .command) → not b ≡ false → Read t ≡ readCommand p .reading
-  within-rules t a b u ea g eb h = rw (sym ea ∙ not-false a g, sym eb ∙ not-false b h) at (by-rules t u)
+  pub zeros-by-name : (q : SymbolRequest) {a b : Bool} → a ≡ eqb (getD p 11 0) 0 → b ≡ eqb (beAt 2 p 66) 0 → (a && b) ≡ zeroRules p (DumpSymbol q)
+  unfolding zeroRules
+  zeros-by-name q e f = rw (e, f)
 
 -- twelve zeros, and eleven words over them
 pub data-over-zeros : (l m n p : List ℕ) → m ≡ splice l 0 noWords → n ≡ splice m 0 (take 11 (dataWords p)) → n ≡ splice l 0 (dataWords p ++ (0 ∷ []))

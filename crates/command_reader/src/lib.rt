@@ -4,37 +4,82 @@ ghost use Prim.Native.Nat.{_≤_, _<_};
 ghost use lib.ListN.{length};
 ghost use Rattle.lists.specs.Splice.{splice};
 ghost use Rattle.rules.specs.Ground.{noWords, wordsBeside, readCommand};
+ghost use Rattle.rules.specs.Packets.{decode};
 ghost use Rattle.command_reader.specs.Beside.{wordsWith};
+ghost use Rattle.command_reader.specs.Read.{givenAs, readAs};
 use bulk::load_words;
 use bulk::name_words;
+use packet::code;
+use packet::end_is_zero;
 use packet::field_rules;
-use packet::fields;
-use packet::framed;
-use packet::unit_of;
-use packet::zero_rules;
+use packet::function_code;
+use packet::headed;
+use packet::header_at;
+use packet::lengths;
+use packet::pad_is_zero;
+use packet::request_in;
+use packet::symbol_request_in;
 use rules::Command;
 use rules::CommandRead;
 use rules::Reading;
 use rules::Refusal;
+use rules::Telecommand;
+use rules::Verdict;
+use wire::byte_at;
+use wire::get16;
 
-// Numbers 4 to 7, as a box of the packet's own unit gives them, and 9, or the fields. The two tests of number 9 return apart: joined in one,
-// a dump takes a quarter longer to read, since the compiler then picks the command twice.
+// Numbers 7 and 9 of a command whose packet must have so many bytes, or its fields. `zeros` says whether the bits that hold no field are zero.
+fn given(p: &[u8], bytes: usize, zeros: bool, command: Command) -> Reading
+    ensures { λ r. ⌜ r ≡ givenAs (now (p .entry)) bytes zeros command ⌝ }
+{
+    if p.len() != bytes {
+        return Reading::Unread(Refusal::PacketLength);
+    }
+    if !(field_rules(command) & zeros) {
+        return Reading::Unread(Refusal::BadField);
+    }
+    let header = header_at(p, 8);
+    Reading::Read(Telecommand { header, command })
+}
+
+// The function code picks the command and its packet's length.
+fn by_code(p: &[u8]) -> Reading
+    ensures { λ r. ⌜ r ≡ readAs (now (p .entry)) (decode (now (p .entry))) ⌝ }
+{
+    match function_code(p) {
+        code::DUMP => given(p, lengths::DUMP, true, Command::Dump(request_in(p))),
+        code::CANCEL => given(p, lengths::CANCEL, true, Command::Cancel),
+        code::LOAD => given(p, lengths::LOAD, true, Command::Load(request_in(p))),
+        code::POOL => given(
+            p,
+            lengths::POOL,
+            true,
+            Command::PoolStatistics(get16(p, 10)),
+        ),
+        code::VALUE => given(
+            p,
+            lengths::VALUE,
+            pad_is_zero(p),
+            Command::SymbolValue(byte_at(p, 10)),
+        ),
+        code::NAMED_DUMP => given(
+            p,
+            lengths::NAMED_DUMP,
+            pad_is_zero(p) & end_is_zero(p),
+            Command::DumpSymbol(symbol_request_in(p)),
+        ),
+        _ => Reading::Unread(Refusal::UnknownCode),
+    }
+}
+
+// Numbers 4 to 7 and 9, or the fields.
 pub fn reading_of(p: &[u8]) -> Reading
     ensures { λ r. ⌜ r ≡ readCommand (now (p .entry)) .reading ⌝ }
 {
-    let reading = fields(p, framed(p, unit_of(p)));
-    match reading {
-        Reading::Unread(r) => Reading::Unread(r),
-        Reading::Read(f) => {
-            let k = f.command;
-            if !field_rules(k) {
-                return Reading::Unread(Refusal::BadField);
-            }
-            if !zero_rules(p, k) {
-                return Reading::Unread(Refusal::BadField);
-            }
-            reading
-        }
+    let head = headed(p);
+    match head {
+        Verdict::Rejected(r) => Reading::Unread(r),
+        Verdict::Accepted => by_code(p),
     }
 }
 

@@ -7,10 +7,11 @@ ghost use lib.ListN.{length, getD, set, take, drop, replicate};
 ghost use Rattle.lists.specs.Splice.{splice};
 ghost use Rattle.wire.specs.Bytes.{be, wordBytes};
 ghost use Rattle.wire.specs.Xor.{xorAll};
-ghost use Rattle.rules.specs.Packets.{codeOf, packetLength, usedWords, nameBytes, nameField, requestBytes, bodyBytes};
+ghost use Rattle.rules.specs.Packets.{packetLength, usedWords, nameBytes, nameField, requestBytes, bodyBytes};
 ghost use Rattle.rules.specs.Ground.{headerRules, writeCommand};
 ghost use Rattle.command_writer.specs.Start.{startBytes};
 ghost use Rattle.rules.specs.declared.Command.the-variants.{DumpSymbol};
+use packet::code_of;
 use packet::field_rules;
 use packet::packet_length;
 use rules::Answer;
@@ -23,19 +24,6 @@ use rules::Written;
 use wire::put_words;
 use wire::wide32;
 use wire::xor_word;
-
-fn code_of(k: Command) -> u8
-    ensures { λ r. ⌜ r ≡ codeOf k ⌝ }
-{
-    match k {
-        Command::Dump(_) => 0,
-        Command::Cancel => 1,
-        Command::Load(_) => 4,
-        Command::PoolStatistics(_) => 7,
-        Command::SymbolValue(_) => 8,
-        Command::DumpSymbol(_) => 9,
-    }
-}
 
 fn header_rules(h: Header) -> bool
     ensures { λ r. ⌜ r ≡ headerRules h ⌝ }

@@ -12,7 +12,7 @@ use Rattle.lists.proofs.Tests.{either, and-left, and-right}
 use Rattle.lists.proofs.Below.{any-first}
 use Rattle.rules.specs.Regions.{aligned, regionAt, anyRight, loadRight, dumpRight, inOneRegion, startsInside, imageLength, regionOf, imageIndex, wordsOf}
 use Rattle.rules.specs.States.{poolAt, contextAt, busyWith, goodState}
-use Rattle.rules.specs.Packets.{requested, decode, fieldRules, commandTransaction, nameIn}
+use Rattle.rules.specs.Packets.{requested, decode, packetLength, fieldRules, commandTransaction, nameIn}
 use Rattle.rules.specs.Pools.{Walk, damaged, whole, blocksOf, isDamaged, replyLength}
 use Rattle.rules.specs.Results.{lowest, lentRows}
 use Rattle.rules.specs.Values.{addressFits}
@@ -34,20 +34,19 @@ use Rattle.rules.specs.declared.Task.{Task}
 use Rattle.rules.specs.declared.Task.the-variants.{Nothing, DumpRange, CancelDump, LoadRange, CountPool, TellValue}
 use Rattle.rules.specs.declared.Verdict.{Verdict}
 use Rattle.rules.specs.declared.Verdict.the-variants.{Accepted, Rejected}
-use Rattle.packet.specs.Frame.{frameRows, fieldsOf, concludeFrame, frameOf}
-use Rattle.tasks.specs.Asked.{askedOf}
+use Rattle.packet.specs.Frame.{frameRows, headedOf, checkedBy}
+use Rattle.tasks.specs.Asked.{askedOf, ifPassed, pickedBy, soughtIn}
+use Rattle.tasks.specs.declared.Sought.{Sought}
+use Rattle.tasks.specs.declared.Sought.the-variants.{Denied, Asked}
 use Rattle.pool.specs.Answers.{figuresOf, walkedOf}
 use Rattle.pool.proofs.ReplyBytes.{reply-bytes, reply-fits}
-use Rattle.regions.proofs.Answers.{found-whole}
-use Rattle.opening.specs.Opening.{lentBy, orderOf, openedAs, openedBy, goodWords}
-use Rattle.decide.specs.Decisions.{decideWalked, byTask, byOrder, decision, answerOf, imageAfter, replyAfter, stateAfter, carriedOut, Decided}
-use Rattle.opening.specs.declared.Order.{Order}
-use Rattle.opening.specs.declared.Opened.{Opened}
-use Rattle.opening.specs.declared.Opened.the-variants.{Shut, Open}
+use Rattle.regions.proofs.Answers.{found-whole, index-whole}
+use Rattle.opening.specs.Opening.{lentBy, openedAs, openedBy, goodWords}
+use Rattle.decide.specs.Decisions.{decideWalked, byTask, bySought, decision, answerOf, imageAfter, replyAfter, stateAfter, carriedOut, Decided}
 use Rattle.decide.specs.declared.Decision.{Decision}
 use Rattle.decide.specs.declared.Decision.the-variants.{Refuse}
 use Rattle.decide.proofs.Right.{right-there}
-use Rattle.opening.proofs.Rows.{orElse}
+use Rattle.opening.proofs.Rows.{orElse, afterCode, frame-lowest}
 use Rattle.decide.proofs.Rows.{askedRows, taskRows, command-lowest}
 use Rattle.opening.proofs.Lent.{LentIs, lent-lowest, lent-out, lent-good}
 
@@ -127,18 +126,17 @@ module _ (s : State) (c : CommandArgs) (lent : LentIs s (c .image) replyLength (
       (either (ltb (firstWith t (s .places)) 4) (λ b. rw b) (λ b. rw b))
 
   own-load : (a : Range) → 1 ≤ a .words → a .words ≤ 11 → Own (LoadRange a)
-  unfolding lowest taskRows imageIndex
+  unfolding lowest taskRows
   own-load a some most =
-      rw (found-whole _ _ a (lent .start .table) some)
-      (either (inOneRegion anyRight (s .regions) (s .count) a)
+      either (inOneRegion anyRight (s .regions) (s .count) a)
       (λ i.
       let fits : imageIndex (s .regions) (s .count) a .0 + a .words ≤ length (c .image) =
       omega (arith, image-fits (s .regions) (s .count) a i, lent .whole) in
-      rw (i, starts-whole _ _ a some i, right-there loadRight _ _ (lent .start .table) a some i)
+      rw (index-whole (s .regions) a (s .count) (lent .start .table) some i, found-whole _ _ a (lent .start .table) some, i, starts-whole _ _ a some i, right-there loadRight _ _ (lent .start .table) a some i)
       (either (regionAt (s .regions) (regionOf (s .regions) (s .count) a) .load)
       (λ r. rw (r, le-leb (a .words) 11 most, le-leb _ _ fits))
       (λ r. rw r)))
-      (λ i. rw i (either (startsInside (s .regions) (s .count) a) (λ q. rw q) (λ q. rw q))))
+      (λ i. rw (found-whole _ _ a (lent .start .table) some, i) (either (startsInside (s .regions) (s .count) a) (λ q. rw q) (λ q. rw q)))
 
   -- the reply with its numbers cut to their fields is the reply, and the figures are those of the blocks
   pool-walked : (i : ℕ) (w : Walk) → blocksOf (poolWords s i (c .image)) ≡ w
@@ -151,7 +149,7 @@ module _ (s : State) (c : CommandArgs) (lent : LentIs s (c .image) replyLength (
       rw (e, le-leb 32 (length (c .reply)) (lent .room), put, reply-bytes (s .replies) (s .unit) t i bs)
 
   own-pool : (i : ℕ) → i ≤ 1 → Own (CountPool i)
-  unfolding lowest taskRows wordsOf imageIndex
+  unfolding lowest taskRows wordsOf
   own-pool i low =
       let pool : Range = poolAt (s .pools) i in
       either (eqb (pool .words) 0)
@@ -162,7 +160,7 @@ module _ (s : State) (c : CommandArgs) (lent : LentIs s (c .image) replyLength (
       let fits : imageIndex (s .regions) (s .count) pool .0 + pool .words ≤ length (c .image) =
       omega (arith, image-fits (s .regions) (s .count) pool inside, lent .whole) in
       let some : 1 ≤ pool .words = let n = eqb-false (pool .words) 0 z in omega arith in
-      rw (found-whole _ _ pool (lent .start .table) some, z, inside, le-leb _ _ fits) (pool-walked i (blocksOf (poolWords s i (c .image))) refl))
+      rw (index-whole (s .regions) pool (s .count) (lent .start .table) some inside, found-whole _ _ pool (lent .start .table) some, z, inside, le-leb _ _ fits) (pool-walked i (blocksOf (poolWords s i (c .image))) refl))
 
   -- the reply with its numbers cut to their fields is the reply
   own-value : (v : ℕ) → Own (TellValue v)
@@ -187,13 +185,15 @@ module _ (s : State) (c : CommandArgs) (lent : LentIs s (c .image) replyLength (
   abbrev taskBy : Decoded → Task
   taskBy d = taskOf (c .symbols) (nameIn (c .packet)) d
 
-  -- the call, by the rows that are left for a packet that passed 4 to 8
-  abbrev Asks : Decoded → Type 0
-  Asks d =
-      concludeAs s c (taskBy d) (orElse (lowest (askedRows c d)) (lowest (taskRows s c (taskBy d))))
-      ≡ carriedOut s c (byOrder s (c .image) (orderOf (c .symbols) (c .packet) (fieldsOf (c .packet) d)))
+  -- the decision on what a packet asks for
+  abbrev bySoughtHere : Sought → Decision
+  bySoughtHere a = bySought s (c .image) (commandTransaction (c .packet)) a
 
-  by-command : (k : Command) → Asks (Known k)
+  -- the rows that are left for a packet that passed 4 to 8
+  abbrev left : Decoded → Verdict
+  left d = orElse (lowest (askedRows c d)) (lowest (taskRows s c (taskBy d)))
+
+  by-command : (k : Command) → concludeAs s c (taskBy (Known k)) (left (Known k)) ≡ carriedOut s c (bySoughtHere (askedOf (c .symbols) (c .packet) k))
   unfolding lowest askedRows askedOf
   by-command k =
       let name : List ℕ = nameIn (c .packet) in
@@ -204,20 +204,32 @@ module _ (s : State) (c : CommandArgs) (lent : LentIs s (c .image) replyLength (
       (λ e₄. rw e₄ (by-task (taskBy (Known k)) (task-sized (c .symbols) (c .packet) k e₂ e₄)))))))
       (λ e. rw e)))
 
-  by-decoded : (d : Decoded) → Asks d
-  unfolding lowest askedRows taskRows
+  -- 6, 7 AND 8: what the function code picks
+
+  by-checked : (k : Command) (v : Verdict)
+      → concludeAs s c (taskBy (Known k)) (orElse v (left (Known k))) ≡ carriedOut s c (bySoughtHere (ifPassed v (askedOf (c .symbols) (c .packet) k)))
+  by-checked k (Rejected r) = refl
+  by-checked k Accepted = by-command k
+
+  by-decoded : (d : Decoded)
+      → concludeAs s c (taskBy d) (orElse (afterCode (c .packet) (s .unit) d) (left d)) ≡ carriedOut s c (bySoughtHere (pickedBy (c .packet) (s .unit) (c .symbols) d))
   by-decoded Unknown = refl
-  by-decoded (Known k) = by-command k
+  by-decoded (Known k) = by-checked k (checkedBy (c .packet) (s .unit) (packetLength k))
 
-  -- 4 TO 8
+  -- 4 AND 5
 
-  by-frame : (v : Verdict)
-      → conclude s c (orElse v (orElse (lowest (askedRows c (decode (c .packet)))) (lowest (taskRows s c (task c)))))
-      ≡ carriedOut s c (byOrder s (c .image) (orderOf (c .symbols) (c .packet) (concludeFrame (c .packet) v)))
+  by-head : (v : Verdict)
+      → conclude s c (orElse (orElse v (afterCode (c .packet) (s .unit) (decode (c .packet)))) (orElse (lowest (askedRows c (decode (c .packet)))) (lowest (taskRows s c (task c)))))
+      ≡ carriedOut s c (bySoughtHere (ifPassed v (pickedBy (c .packet) (s .unit) (c .symbols) (decode (c .packet)))))
   unfolding task
-  by-frame (Rejected r) = refl
-  by-frame Accepted =
-      conclude-as s c (orElse (lowest (askedRows c (decode (c .packet)))) (lowest (taskRows s c (task c)))) ∙ by-decoded (decode (c .packet))
+  by-head (Rejected r) = refl
+  by-head Accepted =
+      conclude-as s c (orElse (afterCode (c .packet) (s .unit) (decode (c .packet))) (left (decode (c .packet)))) ∙ by-decoded (decode (c .packet))
+
+  by-frame : conclude s c (orElse (lowest (frameRows (c .packet) (s .unit))) (orElse (lowest (askedRows c (decode (c .packet)))) (lowest (taskRows s c (task c)))))
+      ≡ carriedOut s c (bySoughtHere (soughtIn (c .packet) (s .unit) (c .symbols)))
+  unfolding soughtIn
+  by-frame = rw (frame-lowest (c .packet) (s .unit)) (by-head (headedOf (c .packet)))
 
 -- 1 TO 3, AND THE CALL
 
@@ -225,10 +237,9 @@ by-lent : (s : State) (c : CommandArgs) (v : Verdict) → lowest (lentRows s (c 
     → conclude s c
     (orElse v
     (orElse (lowest (frameRows (c .packet) (s .unit))) (orElse (lowest (askedRows c (decode (c .packet)))) (lowest (taskRows s c (task c))))))
-    ≡ carriedOut s c (byOrder s (c .image) (openedAs v (c .packet) (c .symbols) (s .unit)))
-unfolding frameOf
+    ≡ carriedOut s c (bySought s (c .image) (commandTransaction (c .packet)) (openedAs v (c .packet) (c .symbols) (s .unit)))
 by-lent s c (Rejected r) e = refl
-by-lent s c Accepted e = by-frame s c (lent-out s (c .image) replyLength (c .reply) e) (lowest (frameRows (c .packet) (s .unit)))
+by-lent s c Accepted e = by-frame s c (lent-out s (c .image) replyLength (c .reply) e)
 
 pub decided : Decided
 unfolding commandCall decision
@@ -238,27 +249,27 @@ decided s c =
 
 -- A STORE THAT SUPPLIES THE FACTS, AND CARRIES THE DECISION OUT
 
-open-accepted : (v : Verdict) (p symbols : List ℕ) (unit : ℕ) (o : Order) → openedAs v p symbols unit ≡ Open o → v ≡ Accepted
-open-accepted (Rejected r) p symbols unit o h = let z : _≡_ {A = ℕ} 0 1 = cc in absurd (omega arith)
-open-accepted Accepted p symbols unit o h = refl
+open-accepted : (v : Verdict) (p symbols : List ℕ) (unit : ℕ) (k : Task) → openedAs v p symbols unit ≡ Asked k → v ≡ Accepted
+open-accepted (Rejected r) p symbols unit k h = let z : _≡_ {A = ℕ} 0 1 = cc in absurd (omega arith)
+open-accepted Accepted p symbols unit k h = refl
 
 -- its steps give the decision
 module _ (s : State) (c : CommandArgs) {words reply : ℕ} (ew : words ≡ cond (goodState s) (imageLength (s .regions) (s .count)) 0)
-    (er : length (c .reply) ≡ reply) {a : Opened} (ea : a ≡ openedBy words (length (c .image)) reply (c .packet) (c .symbols) (s .unit)) where
+    (er : length (c .reply) ≡ reply) {a : Sought} (ea : a ≡ openedBy words (length (c .image)) reply (c .packet) (c .symbols) (s .unit)) where
   opened-as : openedBy (goodWords s) (length (c .image)) (length (c .reply)) (c .packet) (c .symbols) (s .unit) ≡ a
   unfolding goodWords
   opened-as = rw (er, ← ew) (sym ea)
 
-  pub step-shut : {r : Refusal} → a ≡ Shut r → Refuse r ≡ decision s c
+  pub step-shut : {r : Refusal} → a ≡ Denied r → Refuse r ≡ decision s c
   unfolding decision
   step-shut h = rw (opened-as, h)
 
-  pub step-open : {o : Order} {d : Decision} → a ≡ Open o → (goodState s ≡ true → d ≡ byOrder s (c .image) (Open o)) → d ≡ decision s c
+  pub step-open : {k : Task} {t : ℕ} {d : Decision} → a ≡ Asked k → t ≡ commandTransaction (c .packet) → (goodState s ≡ true → d ≡ byTask s (c .image) t k) → d ≡ decision s c
   unfolding decision
-  step-open {o} h k =
+  step-open {k} h et f =
       let lent : Verdict = lentBy (goodWords s) (length (c .image)) 32 (length (c .reply)) in
-      rw (opened-as, h)
-      (k (lent-good s (length (c .image)) 32 (length (c .reply)) (open-accepted lent (c .packet) (c .symbols) (s .unit) o (opened-as ∙ h))))
+      rw (opened-as, h, ← et)
+      (f (lent-good s (length (c .image)) 32 (length (c .reply)) (open-accepted lent (c .packet) (c .symbols) (s .unit) k (opened-as ∙ h))))
 
 -- and their effect is the call's
 module _ (s : State) (c : CommandArgs) {d : Decision} (e : d ≡ decision s c) where

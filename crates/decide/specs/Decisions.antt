@@ -7,7 +7,7 @@ use lib.Dec.{leb, ltb, eqb}
 use lib.ListN.{length, take}
 use Rattle.lists.specs.Splice.{splice}
 use Rattle.rules.specs.States.{poolAt}
-use Rattle.rules.specs.Packets.{dataWords}
+use Rattle.rules.specs.Packets.{dataWords, commandTransaction}
 use Rattle.rules.specs.Pools.{blocksOf}
 use Rattle.rules.specs.Results.{counted}
 use Rattle.rules.specs.Values.{valueBytes}
@@ -20,15 +20,16 @@ use Rattle.rules.specs.declared.Range.{Range}
 use Rattle.rules.specs.declared.Refusal.the-variants.{UnknownCode, OutsideRegions, NoRight, TransactionBusy, PlacesBusy, NotBusy, PoolDamaged, RunsOut}
 use Rattle.rules.specs.declared.State.{State}
 use Rattle.rules.specs.declared.Task.{Task}
+use Rattle.rules.specs.declared.WordIndex.{WordIndex}
 use Rattle.rules.specs.declared.Task.the-variants.{Nothing, DumpRange, CancelDump, LoadRange, CountPool, TellValue}
 use Rattle.pool.specs.Answers.{walkedOf, figureBytes}
 use Rattle.pool.specs.declared.Walked.{Walked}
 use Rattle.pool.specs.declared.Walked.the-variants.{Damaged, Whole}
 use Rattle.regions.specs.declared.Found.{Found}
 use Rattle.regions.specs.declared.Found.the-variants.{At, StartsOutside, EndsOutside}
-use Rattle.opening.specs.Opening.{openedBy, goodWords, find, wordsFrom}
-use Rattle.opening.specs.declared.Opened.{Opened}
-use Rattle.opening.specs.declared.Opened.the-variants.{Shut, Open}
+use Rattle.opening.specs.Opening.{openedBy, goodWords, find, index, wordsFrom}
+use Rattle.tasks.specs.declared.Sought.{Sought}
+use Rattle.tasks.specs.declared.Sought.the-variants.{Denied, Asked}
 use Rattle.decide.specs.declared.Decision.{Decision}
 use Rattle.decide.specs.declared.Decision.the-variants.{Refuse, Dump as Placed, Cancel as Freed, Load as Stored, Reply, Tell}
 
@@ -46,22 +47,22 @@ decideDump t a (At spot) busy idle =
 abbrev pub decideCancel : ℕ → Decision
 decideCancel busy = cond (leb 4 busy) (Refuse NotBusy) (Freed (record { place = busy }))
 
-abbrev pub decideLoad : Range → Found → Decision
-decideLoad a StartsOutside = Refuse OutsideRegions
-decideLoad a EndsOutside = Refuse RunsOut
-decideLoad a (At spot) = cond (spot .load) (Stored (record { at = spot .index; words = a .words })) (Refuse NoRight)
+abbrev pub decideLoad : Range → Found → WordIndex → Decision
+decideLoad a StartsOutside at = Refuse OutsideRegions
+decideLoad a EndsOutside at = Refuse RunsOut
+decideLoad a (At spot) at = cond (spot .load) (Stored (record { at = at; words = a .words })) (Refuse NoRight)
 
 abbrev pub decideWalked : Header → ℕ → Walked → Decision
 decideWalked h i Damaged = Refuse PoolDamaged
 decideWalked h i (Whole f) = Reply (record { header = h; pool = i; figures = f })
 
-abbrev pub decideFound : Header → ℕ → Range → Found → List ℕ → Decision
-decideFound h i pool StartsOutside image = Refuse OutsideRegions
-decideFound h i pool EndsOutside image = Refuse RunsOut
-decideFound h i pool (At spot) image = decideWalked h i (walkedOf (blocksOf (wordsFrom image (spot .index .0) (pool .words))))
+abbrev pub decideFound : Header → ℕ → Range → Found → WordIndex → List ℕ → Decision
+decideFound h i pool StartsOutside at image = Refuse OutsideRegions
+decideFound h i pool EndsOutside at image = Refuse RunsOut
+decideFound h i pool (At spot) at image = decideWalked h i (walkedOf (blocksOf (wordsFrom image (at .0) (pool .words))))
 
-abbrev pub decidePool : Header → ℕ → Range → Found → List ℕ → Decision
-decidePool h i pool found image = cond (eqb (pool .words) 0) (Refuse OutsideRegions) (decideFound h i pool found image)
+abbrev pub decidePool : Header → ℕ → Range → Found → WordIndex → List ℕ → Decision
+decidePool h i pool found at image = cond (eqb (pool .words) 0) (Refuse OutsideRegions) (decideFound h i pool found at image)
 
 -- THE DECISION, with the facts of a state
 
@@ -69,18 +70,20 @@ abbrev pub byTask : State → List ℕ → ℕ → Task → Decision
 byTask s image t Nothing = Refuse UnknownCode
 byTask s image t (DumpRange a) = decideDump t a (find s a) (firstWith t (s .places)) (firstIdle (s .places))
 byTask s image t CancelDump = decideCancel (firstWith t (s .places))
-byTask s image t (LoadRange a) = decideLoad a (find s a)
+byTask s image t (LoadRange a) = decideLoad a (find s a) (index s a)
 byTask s image t (CountPool i) =
-    decidePool (record { count = s .replies; unit = s .unit; transaction = t }) i (poolAt (s .pools) i) (find s (poolAt (s .pools) i)) image
+    decidePool (record { count = s .replies; unit = s .unit; transaction = t }) i (poolAt (s .pools) i) (find s (poolAt (s .pools) i))
+    (index s (poolAt (s .pools) i)) image
 byTask s image t (TellValue v) = Tell (record { header = record { count = s .values; unit = s .unit; transaction = t }; value = v })
 
-abbrev pub byOrder : State → List ℕ → Opened → Decision
-byOrder s image (Shut r) = Refuse r
-byOrder s image (Open o) = byTask s image (o .transaction) (o .task)
+abbrev pub bySought : State → List ℕ → ℕ → Sought → Decision
+bySought s image t (Denied r) = Refuse r
+bySought s image t (Asked k) = byTask s image t k
 
 unfoldable pub decision : State → CommandArgs → Decision
 decision s c =
-    byOrder s (c .image) (openedBy (goodWords s) (length (c .image)) (length (c .reply)) (c .packet) (c .symbols) (s .unit))
+    bySought s (c .image) (commandTransaction (c .packet))
+    (openedBy (goodWords s) (length (c .image)) (length (c .reply)) (c .packet) (c .symbols) (s .unit))
 
 -- NUMBER AND EFFECT of every case
 

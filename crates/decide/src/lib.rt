@@ -94,8 +94,9 @@ pub fn cancel(busy: usize) -> Decision
     Decision::Cancel(Freed { place: busy })
 }
 
-pub fn load(range: Range, found: Found) -> Decision
-    ensures { λ d. ⌜ d ≡ decideLoad range found ⌝ }
+// A load: `at` is the index in the image of the first word of its range, where that was found.
+pub fn load(range: Range, found: Found, at: WordIndex) -> Decision
+    ensures { λ d. ⌜ d ≡ decideLoad range found at ⌝ }
 {
     match found {
         Found::StartsOutside => Decision::Refuse(Refusal::OutsideRegions),
@@ -104,7 +105,6 @@ pub fn load(range: Range, found: Found) -> Decision
             if !spot.load {
                 return Decision::Refuse(Refusal::NoRight);
             }
-            let at = spot.index;
             Decision::Load(Stored {
                 at,
                 words: range.words as usize,
@@ -113,9 +113,16 @@ pub fn load(range: Range, found: Found) -> Decision
     }
 }
 
-// Pool statistics of pool i, to be answered with this header.
-pub fn pool_statistics(header: Header, i: u16, pool: Range, found: Found, image: &[u32]) -> Decision
-    ensures { λ d. ⌜ d ≡ decidePool header i pool found (now (image .entry)) ⌝ }
+// Pool statistics of pool i, to be answered with this header; `at` as for a load.
+pub fn pool_statistics(
+    header: Header,
+    i: u16,
+    pool: Range,
+    found: Found,
+    at: WordIndex,
+    image: &[u32],
+) -> Decision
+    ensures { λ d. ⌜ d ≡ decidePool header i pool found at (now (image .entry)) ⌝ }
 {
     if pool.words == 0 {
         return Decision::Refuse(Refusal::OutsideRegions);
@@ -124,8 +131,7 @@ pub fn pool_statistics(header: Header, i: u16, pool: Range, found: Found, image:
         // never: a pool of a good state lies in a region
         Found::StartsOutside => Decision::Refuse(Refusal::OutsideRegions),
         Found::EndsOutside => Decision::Refuse(Refusal::RunsOut),
-        Found::At(spot) => {
-            let at = spot.index;
+        Found::At(_) => {
             let walked = walk_pool(words_at(image, at, pool.words as usize));
             match walked {
                 Walked::Damaged => Decision::Refuse(Refusal::PoolDamaged),

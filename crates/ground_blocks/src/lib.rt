@@ -1,10 +1,11 @@
 // The command block and the dump packet block of the C interface: fields read from words, and words made of fields.
 ghost use mathlib.Core.Path.{_≡_};
 ghost use Prim.Native.Nat.{min};
-ghost use Rattle.rules.specs.Packets.{codeOf};
 ghost use Rattle.ground_blocks.specs.Fields.{headerIn, sizeIn, requestIn, symbolRequestIn, commandIn, bodyWords, headWords, tailWords, fieldWords};
 ghost use Rattle.ground_blocks.specs.RoundTrip.{CommandRoundTrip};
 use block::word_at;
+use packet::code;
+use packet::code_of;
 use rules::Address;
 use rules::Command;
 use rules::Decoded;
@@ -67,32 +68,18 @@ fn symbol_request_in(b: &[u32]) -> SymbolRequest
 pub fn command_in(b: &[u32]) -> Decoded
     ensures { λ r. ⌜ r ≡ commandIn (now (b .entry)) ⌝ }
 {
-    let code = word_at(b, 0);
-    match code {
-        0 => Decoded::Known(Command::Dump(request_in(b))),
-        1 => Decoded::Known(Command::Cancel),
-        4 => Decoded::Known(Command::Load(request_in(b))),
-        7 => Decoded::Known(Command::PoolStatistics(at_most_16(word_at(b, 6)))),
-        8 => Decoded::Known(Command::SymbolValue(at_most_8(word_at(b, 19)))),
-        9 => Decoded::Known(Command::DumpSymbol(symbol_request_in(b))),
+    match at_most_8(word_at(b, 0)) {
+        code::DUMP => Decoded::Known(Command::Dump(request_in(b))),
+        code::CANCEL => Decoded::Known(Command::Cancel),
+        code::LOAD => Decoded::Known(Command::Load(request_in(b))),
+        code::POOL => Decoded::Known(Command::PoolStatistics(at_most_16(word_at(b, 6)))),
+        code::VALUE => Decoded::Known(Command::SymbolValue(at_most_8(word_at(b, 19)))),
+        code::NAMED_DUMP => Decoded::Known(Command::DumpSymbol(symbol_request_in(b))),
         _ => Decoded::Unknown,
     }
 }
 
 // A COMMAND AS WORDS
-
-fn code_word(k: Command) -> u32
-    ensures { λ r. ⌜ r ≡ codeOf k ⌝ }
-{
-    match k {
-        Command::Dump(_) => 0,
-        Command::Cancel => 1,
-        Command::Load(_) => 4,
-        Command::PoolStatistics(_) => 7,
-        Command::SymbolValue(_) => 8,
-        Command::DumpSymbol(_) => 9,
-    }
-}
 
 fn body_words(k: Command) -> [u32; 3]
     ensures { λ r. ⌜ r ≡ bodyWords k ⌝ }
@@ -111,7 +98,7 @@ pub fn head_words(f: Telecommand) -> [u32; 7]
     ensures { λ r. ⌜ r ≡ headWords f ⌝ }
 {
     let k = f.command;
-    let code = code_word(k);
+    let code = code_of(k) as u32;
     let body = body_words(k);
     [
         code,

@@ -16,11 +16,12 @@ use batches::bytes_from;
 use batches::lesser;
 use lent_command::tested;
 use lent_state::good_words;
+use packet::code;
+use packet::function_code;
 use results::verdict_number;
 use rules::Verdict;
 use symbols::Known;
 use symbols::known_of;
-use wire::byte_at;
 
 // Item i, whose number and reply length go to the two lists.
 fn item(
@@ -66,8 +67,8 @@ fn names_symbol(bytes: &[u8], starts: &[u32], lengths: &[u32]) -> bool {
     let mut i: usize = 0;
     while (i < starts.len()) & (i < lengths.len()) {
         let item = bytes_from(bytes, starts[i], lengths[i]);
-        let code = byte_at(item, 6) % 128;
-        if (code == 8) | (code == 9) {
+        let c = function_code(item);
+        if (c == code::VALUE) | (c == code::NAMED_DUMP) {
             return true;
         }
         i += 1;

@@ -27,9 +27,11 @@ use Rattle.rules.specs.declared.Range.{Range}
 use Rattle.rules.specs.declared.Refusal.the-variants.{BadState}
 use Rattle.rules.specs.declared.State.{State}
 use Rattle.rules.specs.declared.Task.{Task}
+use Rattle.rules.specs.declared.WordIndex.{WordIndex}
 use Rattle.rules.specs.declared.Task.the-variants.{Nothing, DumpRange, CancelDump, LoadRange, CountPool, TellValue}
 use Rattle.rules.proofs.Good.{good-out}
 use Rattle.rules.proofs.Rules.{start-out}
+use Rattle.regions.specs.Lookup.{foundIndex}
 use Rattle.regions.specs.declared.Found.{Found}
 use Rattle.regions.specs.declared.Found.the-variants.{At, StartsOutside, EndsOutside}
 use Rattle.block.specs.Blocks.{word, rangeIn, contextWords, blockOf, isBlock, stateOf}
@@ -39,14 +41,14 @@ use Rattle.block.proofs.Changes.{laws}
 use Rattle.block.proofs.Forth.{block-forth}
 use Rattle.block.proofs.Lengths.{context-words-length}
 use Rattle.block.proofs.Parts.{range-part}
-use Rattle.opening.specs.Opening.{openedBy, wordsFrom, find}
-use Rattle.decide.specs.Decisions.{decideDump, decideCancel, decideLoad, decideWalked, decideFound, decidePool, byTask, byOrder, decision, answerOf, imageAfter, replyAfter, stateAfter, carriedOut}
+use Rattle.opening.specs.Opening.{openedBy, wordsFrom, find, index}
+use Rattle.decide.specs.Decisions.{decideDump, decideCancel, decideLoad, decideWalked, decideFound, decidePool, byTask, bySought, decision, answerOf, imageAfter, replyAfter, stateAfter, carriedOut}
 use Rattle.opening.specs.Opening as opening
 use Rattle.decide.specs.declared.Decision.{Decision}
 use Rattle.decide.specs.declared.Decision.the-variants.{Refuse, Dump, Cancel, Load, Reply, Tell}
-use Rattle.opening.specs.declared.Opened.{Opened}
-use Rattle.opening.specs.declared.Opened.the-variants.{Shut, Open}
-use Rattle.opening.specs.declared.Order.{Order}
+use Rattle.rules.specs.Packets.{commandTransaction}
+use Rattle.tasks.specs.declared.Sought.{Sought}
+use Rattle.tasks.specs.declared.Sought.the-variants.{Denied, Asked}
 use Rattle.decide.proofs.Commands.{decided}
 use Rattle.lent_places.specs.Writing.{placed}
 use Rattle.lent_places.proofs.Answers.{placed-is}
@@ -77,18 +79,19 @@ module _ (b : List ℕ) where
       let u : word b 53 ≤ 15 = start-out (stateOf b .regions) (stateOf b .count) (stateOf b .pools) (stateOf b .unit) (g .rules) .low in
       (omega arith, omega arith, omega arith)
 
-  pub pool-decided : goodState (stateOf b) ≡ true → (t i : ℕ) (image : List ℕ) {p : Range} {f : Found} {d : Decision} {count unit : ℕ}
-      → p ≡ rangeIn (take 4 (drop 49 b)) (2 * i) → f ≡ find (stateOf b) p → count ≡ word b 75 → unit ≡ word b 53
-      → d ≡ decidePool (record { count = count % 65536; unit = unit % 256; transaction = t }) i p f image
+  pub pool-decided : goodState (stateOf b) ≡ true → (t i : ℕ) (image : List ℕ) {p : Range} {f : Found} {at : WordIndex} {d : Decision} {count unit : ℕ}
+      → p ≡ rangeIn (take 4 (drop 49 b)) (2 * i) → f ≡ find (stateOf b) p → at ≡ foundIndex (stateOf b .regions) p f → count ≡ word b 75 → unit ≡ word b 53
+      → d ≡ decidePool (record { count = count % 65536; unit = unit % 256; transaction = t }) i p f at image
       → d ≡ byTask (stateOf b) image t (CountPool i)
   unfolding stateOf
-  pool-decided good t i image {p} {f} ep ef ec eu e =
+  pool-decided good t i image {p} {f} {at} ep ef ea ec eu e =
       let l = counts-low good in
       let q : p ≡ poolAt (stateOf b .pools) i = ep ∙ pool-on i in
       let g : f ≡ find (stateOf b) (poolAt (stateOf b .pools) i) = ef ∙ ap (find (stateOf b)) q in
+      let h : at ≡ index (stateOf b) (poolAt (stateOf b .pools) i) = ea ∙ (λ x. foundIndex (stateOf b .regions) (q x) (g x)) in
       let count = ap (λ (n : ℕ). n % 65536) ec ∙ l .0 in
       let unit = ap (λ (n : ℕ). n % 256) eu ∙ l .2 in
-      e ∙ (λ x. decidePool (record { count = count x; unit = unit x; transaction = t }) i (q x) (g x) image)
+      e ∙ (λ x. decidePool (record { count = count x; unit = unit x; transaction = t }) i (q x) (g x) (h x) image)
 
   pub value-decided : goodState (stateOf b) ≡ true → (t v : ℕ) (image : List ℕ) {count unit : ℕ} → count ≡ word b 79 → unit ≡ word b 53
       → Tell (record { header = record { count = count % 65536; unit = unit % 256; transaction = t }; value = v }) ≡ byTask (stateOf b) image t (TellValue v)
@@ -116,7 +119,7 @@ module _ (b : List ℕ) where
 
   -- what a box of the block's unit reads; the unit of a good state is below 256
   pub opened-on : (c : CommandArgs) (unit : ℕ) → unit ≡ word b 53
-      → byOrder (stateOf b) (c .image) (openedBy (goodWords b) (length (c .image)) (length (c .reply)) (c .packet) (c .symbols) (unit % 256)) ≡ decisionOn b c
+      → bySought (stateOf b) (c .image) (commandTransaction (c .packet)) (openedBy (goodWords b) (length (c .image)) (length (c .reply)) (c .packet) (c .symbols) (unit % 256)) ≡ decisionOn b c
   unfolding decisionOn decision
   opened-on c unit eu =
       either (isBlock b)
@@ -126,7 +129,7 @@ module _ (b : List ℕ) where
       (λ h. rw (h, words-none h))
 
 -- what is opened is opened for a good state
-pub opened-some : (w image reply : ℕ) (p symbols : List ℕ) (unit : ℕ) {a : Opened} {o : Order} → a ≡ openedBy w image reply p symbols unit → a ≡ Open o → w ≢ 0
+pub opened-some : (w image reply : ℕ) (p symbols : List ℕ) (unit : ℕ) {a : Sought} {k : Task} → a ≡ openedBy w image reply p symbols unit → a ≡ Asked k → w ≢ 0
 opened-some w image reply p symbols unit {a} ea e z =
     let g : a ≡ openedBy 0 image reply p symbols unit = rw z at ea in
     let h : _≡_ {A = ℕ} 0 1 = cc in
@@ -156,40 +159,40 @@ low-dump t a (At spot) busy idle =
 low-cancel : (busy : ℕ) → Low (decideCancel busy)
 low-cancel busy = either (leb 4 busy) (λ g. rw g tt) (λ g. rw g (leb-false _ _ g))
 
-low-load : (a : Range) (f : Found) → Low (decideLoad a f)
-low-load a StartsOutside = tt
-low-load a EndsOutside = tt
-low-load a (At spot) = either (spot .load) (λ g. rw g tt) (λ g. rw g tt)
+low-load : (a : Range) (f : Found) (at : WordIndex) → Low (decideLoad a f at)
+low-load a StartsOutside at = tt
+low-load a EndsOutside at = tt
+low-load a (At spot) at = either (spot .load) (λ g. rw g tt) (λ g. rw g tt)
 
 module _ (h : Header) (i : ℕ) where
   low-walked : (w : Walked) → Low (decideWalked h i w)
   low-walked Damaged = tt
   low-walked (Whole f) = tt
 
-  low-found : (p : Range) (f : Found) (image : List ℕ) → Low (decideFound h i p f image)
-  low-found p StartsOutside image = tt
-  low-found p EndsOutside image = tt
-  low-found p (At spot) image = low-walked (walkedOf (blocksOf (wordsFrom image (spot .index .0) (p .words))))
+  low-found : (p : Range) (f : Found) (at : WordIndex) (image : List ℕ) → Low (decideFound h i p f at image)
+  low-found p StartsOutside at image = tt
+  low-found p EndsOutside at image = tt
+  low-found p (At spot) at image = low-walked (walkedOf (blocksOf (wordsFrom image (at .0) (p .words))))
 
-  low-pool : (p : Range) (f : Found) (image : List ℕ) → Low (decidePool h i p f image)
-  low-pool p f image = either (eqb (p .words) 0) (λ g. rw g tt) (λ g. rw g (low-found p f image))
+  low-pool : (p : Range) (f : Found) (at : WordIndex) (image : List ℕ) → Low (decidePool h i p f at image)
+  low-pool p f at image = either (eqb (p .words) 0) (λ g. rw g tt) (λ g. rw g (low-found p f at image))
 
 module _ (s : State) (image : List ℕ) where
   low-task : (t : ℕ) (k : Task) → Low (byTask s image t k)
   low-task t Nothing = tt
   low-task t (DumpRange a) = low-dump t a (find s a) (firstWith t (s .places)) (firstIdle (s .places))
   low-task t CancelDump = low-cancel (firstWith t (s .places))
-  low-task t (LoadRange a) = low-load a (find s a)
-  low-task t (CountPool i) = low-pool _ i (poolAt (s .pools) i) (find s (poolAt (s .pools) i)) image
+  low-task t (LoadRange a) = low-load a (find s a) (index s a)
+  low-task t (CountPool i) = low-pool _ i (poolAt (s .pools) i) (find s (poolAt (s .pools) i)) (index s (poolAt (s .pools) i)) image
   low-task t (TellValue v) = tt
 
-  low-order : (o : Opened) → Low (byOrder s image o)
-  low-order (Shut r) = tt
-  low-order (Open o) = low-task (o .transaction) (o .task)
+  low-sought : (t : ℕ) (a : Sought) → Low (bySought s image t a)
+  low-sought t (Denied r) = tt
+  low-sought t (Asked k) = low-task t k
 
 low : (s : State) (c : CommandArgs) → Low (decision s c)
 unfolding decision
-low s c = low-order s (c .image) (openedBy (opening.goodWords s) (length (c .image)) (length (c .reply)) (c .packet) (c .symbols) (s .unit))
+low s c = low-sought s (c .image) (commandTransaction (c .packet)) (openedBy (opening.goodWords s) (length (c .image)) (length (c .reply)) (c .packet) (c .symbols) (s .unit))
 
 -- a word past the places is as it was
 past-places : (b : List ℕ) (i : ℕ) (a : Context) → length b ≡ 80 → i < 4 → word (placed b i a) 77 ≡ word b 77

@@ -5,12 +5,10 @@ ghost use mathlib.Core.List.{List};
 ghost use Prim.Native.Nat.{ℕ};
 ghost use lib.ListN.{length};
 ghost use Rattle.rules.specs.States.{goodState};
-ghost use Rattle.opening.specs.declared.Opened.the-variants.{Open};
 ghost use Rattle.block.specs.Blocks.{stateOf, isBlock};
 ghost use Rattle.block.specs.Calls.{goodWords, lgCommand};
 ghost use Rattle.symbols.specs.Answers.{KnownOf};
-ghost use Rattle.opening.specs.Opening.{find};
-ghost use Rattle.decide.specs.Decisions.{byOrder};
+ghost use Rattle.decide.specs.Decisions.{byTask};
 ghost use Rattle.lent_command.specs.OnBlock.{decisionOn, blockAfter};
 use block::raise;
 use block::range_in;
@@ -27,40 +25,33 @@ use decide::write_out;
 use lent_places::first_idle;
 use lent_places::first_with;
 use lent_places::put_context;
-use lent_regions::find_region;
+use lent_state::find;
 use lent_state::good_words;
-use opening::Opened;
-use opening::Order;
+use lent_state::index;
 use opening::opened_by;
-use regions::Found;
+use packet::transaction_of;
 use results::hand_over;
 use rules::Context;
 use rules::Header;
-use rules::Range;
 use rules::Refusal;
 use rules::Task;
 use symbols::Known;
-
-fn find(b: &[u32], a: Range) -> Found
-    requires { ⌜ (isBlock (now b) && goodState (stateOf (now b))) ≡ true ⌝ }
-    ensures { λ f. ⌜ f ≡ find (stateOf (now (b .entry))) a ⌝ }
-{
-    find_region(&b[1..49], b[0] as usize, a)
-}
+use tasks::Sought;
 
 // The decision on a task in a good state, by the facts that this task asks for.
-fn by_task(b: &[u32], o: Order, image: &[u32]) -> Decision
+fn by_task(b: &[u32], t: u16, k: Task, image: &[u32]) -> Decision
     requires { ⌜ (isBlock (now b) && goodState (stateOf (now b))) ≡ true ⌝ }
-    ensures { λ d. ⌜ d ≡ byOrder (stateOf (now (b .entry))) (now (image .entry)) (Open o) ⌝ }
+    ensures { λ d. ⌜ d ≡ byTask (stateOf (now (b .entry))) (now (image .entry)) t k ⌝ }
 {
-    let k = o.task;
-    let t = o.transaction;
     let ps = &b[54..74];
     match k {
         Task::Nothing => Decision::Refuse(Refusal::UnknownCode),
         Task::DumpRange(a) => dump(t, a, find(b, a), first_with(ps, t, 4), first_idle(ps)),
         Task::CancelDump => cancel(first_with(ps, t, 4)),
-        Task::LoadRange(a) => load(a, find(b, a)),
+        Task::LoadRange(a) => {
+            let found = find(b, a);
+            load(a, found, index(b, a, found))
+        }
         Task::CountPool(i) => {
             let pool = range_in(&b[49..53], 2 * i as usize);
             let header = Header {
@@ -68,7 +59,8 @@ fn by_task(b: &[u32], o: Order, image: &[u32]) -> Decision
                 unit: (word_at(b, 53) % 256) as u8,
                 transaction: t,
             };
-            pool_statistics(header, i, pool, find(b, pool), image)
+            let found = find(b, pool);
+            pool_statistics(header, i, pool, found, index(b, pool, found), image)
         }
         Task::TellValue(v) => {
             let header = Header {
@@ -95,10 +87,10 @@ fn decide(
     ensures { λ d. ⌜ ((bytes : List ℕ) → length bytes ≡ reply → d ≡ decisionOn (now (b .entry)) (record { packet = now (packet .entry); symbols = now (symbols .entry); image = now (image .entry); reply = bytes })) ⌝ }
 {
     let unit = (word_at(b, 53) % 256) as u8;
-    let opened = opened_by(words, image.len(), reply, packet, symbols, known, unit);
-    match opened {
-        Opened::Shut(r) => Decision::Refuse(r),
-        Opened::Open(o) => by_task(b, o, image),
+    let sought = opened_by(words, image.len(), reply, packet, symbols, known, unit);
+    match sought {
+        Sought::Denied(r) => Decision::Refuse(r),
+        Sought::Asked(k) => by_task(b, transaction_of(packet), k, image),
     }
 }
 

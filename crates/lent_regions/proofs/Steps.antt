@@ -7,22 +7,23 @@ use Prim.Native.Nat.{ℕ, _+_, _*_, _-_, _/_, _%_, _≤_, _<_, min}
 use native.Mathlib.Omega.{arith}
 use lib.Dec.{leb, eqb}
 use lib.ListN.{length, List·getD-eq-default}
-use borrow.Author.Tests.{le-leb, lt-leb}
+use borrow.Author.Tests.{le-leb, lt-leb, lt-ltb, le-ltb}
 use Rattle.lists.specs.Below.{allBelow}
 use Rattle.lists.proofs.Below.{all-at, all-of}
 use Rattle.lists.proofs.Tests.{either, contra, by-lt}
 use Rattle.rules.specs.Regions.{startOf, endOf, tableRules, firstOf, noRegion, regionAt, rangeAt, endBefore, regionRules, wordsBelow}
 use Rattle.rules.specs.declared.Range.{Range}
 use Rattle.rules.specs.declared.Region.{Region}
+use Rattle.rules.specs.declared.WordIndex.{WordIndex}
 use Rattle.regions.specs.Halving.{regionByHalving, findByHalving}
-use Rattle.regions.specs.Lookup.{rulesBy, holdsBy, FoundWhen}
+use Rattle.regions.specs.Lookup.{rulesBy, holdsBy, FoundWhen, wordIndex, IndexWhen}
 use Rattle.regions.specs.declared.Found.{Found}
 use Rattle.regions.specs.declared.Found.the-variants.{At, StartsOutside, EndsOutside}
 use Rattle.regions.proofs.Steps.{end-more, words-more, found-short, found-at}
-use Rattle.regions.proofs.Answers.{found-exactly}
+use Rattle.regions.proofs.Answers.{found-exactly, indexed}
 use Rattle.block.specs.Blocks.{word, rangeIn, regionIn, regionsIn, regionsBounds}
 use Rattle.block.proofs.Runs.{list-at}
-use Rattle.lent_regions.specs.Finding.{findIn}
+use Rattle.lent_regions.specs.Finding.{findIn, wordIndexIn}
 
 module _ (w : List ℕ) (i : ℕ) (l : i < 16) where
   region-at : regionAt (regionsIn w 0) i ≡ regionIn w (3 * i)
@@ -62,11 +63,9 @@ module _ (w : List ℕ) (i : ℕ) (l : i < 16) where
 
   -- the region found, with its rights as they were read
   pub found-here : (m : ℕ) (a : Range) → i ≡ regionByHalving (regionsIn w 0) m (firstOf a) → i < m → endOf a ≤ endRead
-      → (below before rights : ℕ) → below ≡ wordsBelow (regionsIn w 0) i
-      → before ≡ (startOf a - word w (3 * i)) / 4 → rights ≡ word w (3 * i + 2)
-      → At (record { region = i; index = record { 0 = below + before }; load = eqb (rights % 2) 1; dump = leb 2 rights }) ≡ findByHalving (regionsIn w 0) m a
-  found-here m a ei k q below before rights eb eo er =
-      rw (er) (rw region-at at (found-at (regionsIn w 0) m a i ei k (rw end-read q) below before eb (eo ∙ rw (range-at))))
+      → (rights : ℕ) → rights ≡ word w (3 * i + 2)
+      → At (record { region = i; load = eqb (rights % 2) 1; dump = leb 2 rights }) ≡ findByHalving (regionsIn w 0) m a
+  found-here m a ei k q rights er = rw (er) (rw region-at at (found-at (regionsIn w 0) m a i ei k (rw end-read q)))
 
 -- THE RIGHTS of the entries that are whole in the words: the others are 0
 module _ (w : List ℕ) (m : ℕ) (em : m ≡ min (length w / 3) 16) where
@@ -98,3 +97,28 @@ module _ (w : List ℕ) (n : ℕ) (a : Range) where
 
   pub in-table : 48 ≤ length w → {f : Found} → f ≡ findByHalving (regionsIn w 0) (min n 16) a → Promised f
   in-table l e = (e ∙ sym (of-table l), λ k. found-exactly (regionsIn w 0) n a e)
+
+-- likewise the index of a range that region k holds
+module _ (w : List ℕ) (k : ℕ) (a : Range) where
+  abbrev IndexPromised : WordIndex → Type 0
+  IndexPromised x =
+      (x ≡ wordIndexIn w k a) × (48 ≤ length w → (n : ℕ) → tableRules (regionsIn w 0) n ≡ true → IndexWhen (regionsIn w 0) n k a x)
+
+  pub index-of-table : 48 ≤ length w → wordIndexIn w k a ≡ wordIndex (regionsIn w 0) k a
+  unfolding wordIndexIn
+  index-of-table l = rw (le-leb 48 (length w) l)
+
+  index-in-table : 48 ≤ length w → {x : WordIndex} → x ≡ wordIndex (regionsIn w 0) k a → IndexPromised x
+  index-in-table l {x} e = (e ∙ sym (index-of-table l), λ m. indexed (regionsIn w 0) a k x e .1)
+
+  -- no table, no such region, and the region by its words
+  pub no-index : length w < 48 → IndexPromised (record { 0 = 0 })
+  unfolding wordIndexIn
+  no-index l = (rw (lt-leb 48 (length w) l), λ m. absurd (omega arith))
+
+  pub index-past : 48 ≤ length w → 16 ≤ k → IndexPromised (record { 0 = 0 })
+  index-past l past = index-in-table l (rw (le-ltb k 16 past))
+
+  pub index-here : 48 ≤ length w → k < 16 → (below before : ℕ) → below ≡ wordsBelow (regionsIn w 0) k → before ≡ (startOf a - word w (3 * k)) / 4
+      → IndexPromised (record { 0 = below + before })
+  index-here l low below before eb eo = index-in-table l (rw (eb, eo, lt-ltb k 16 low, range-at w k low))

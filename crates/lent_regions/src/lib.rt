@@ -1,13 +1,13 @@
 // The region table of a block: 48 words, three to a region (start, size, rights), in the caller's memory. The rules of one region are in regions.
 ghost use mathlib.Core.Path.{_≡_};
 ghost use mathlib.Core.Bool.{true};
-ghost use Prim.Native.Nat.{_*_, _≤_, min};
+ghost use Prim.Native.Nat.{ℕ, _*_, _≤_, min};
 ghost use lib.ListN.{length};
 ghost use Rattle.rules.specs.Regions.{tableRules, wordsBelow};
 ghost use Rattle.regions.specs.Halving.{regionByHalving, compared, AtMostFive};
-ghost use Rattle.regions.specs.Lookup.{tableWords, FoundWhen};
+ghost use Rattle.regions.specs.Lookup.{tableWords, FoundWhen, IndexWhen};
 ghost use Rattle.block.specs.Blocks.{regionsIn, regionsBounds};
-ghost use Rattle.lent_regions.specs.Finding.{findIn};
+ghost use Rattle.lent_regions.specs.Finding.{findIn, wordIndexIn};
 use block::word_at;
 use regions::Found;
 use regions::Searched;
@@ -104,7 +104,7 @@ fn words_below(rs: &[u32], k: usize) -> usize
     total
 }
 
-// The region that holds the range whole, and where the range begins in the image; or how it missed. The search is for its first word.
+// The region that holds the range whole, or how it missed. The search is for its first word.
 pub fn find_region(rs: &[u32], n: usize, a: Range) -> Found
     ensures { λ f. ⌜ (f ≡ findIn (now (rs .entry)) n a) × (48 ≤ length (now (rs .entry)) → tableRules (regionsIn (now (rs .entry)) 0) n ≡ true → FoundWhen (regionsIn (now (rs .entry)) 0) n a f) ⌝ }
 {
@@ -119,14 +119,27 @@ pub fn find_region(rs: &[u32], n: usize, a: Range) -> Found
     if end_of(rs[3 * k], rs[3 * k + 1]) < end_of(a.start.0, a.words) {
         return Found::EndsOutside;
     }
-    let below = words_below(rs, k);
-    let before = words_before(rs[3 * k], a.start.0) as usize;
-    let at = below + before;
     let rights = rs[3 * k + 2];
     Found::At(Spot {
-        index: WordIndex(at),
         region: k as u8,
         load: rights % 2 == 1,
         dump: 2 <= rights,
     })
+}
+
+// The index in the image of the first word of a range that region k holds. Only this makes an index from an address, and only those ask it that
+// read or write the range's words.
+pub fn word_index(rs: &[u32], k: u8, a: Range) -> WordIndex
+    ensures { λ w. ⌜ (w ≡ wordIndexIn (now (rs .entry)) k a) × (48 ≤ length (now (rs .entry)) → (n : ℕ) → tableRules (regionsIn (now (rs .entry)) 0) n ≡ true → IndexWhen (regionsIn (now (rs .entry)) 0) n k a w) ⌝ }
+{
+    if rs.len() < 48 {
+        return WordIndex(0);
+    }
+    let i = k as usize;
+    if 16 <= i {
+        return WordIndex(0);
+    }
+    let below = words_below(rs, i);
+    let before = words_before(rs[3 * i], a.start.0) as usize;
+    WordIndex(below + before)
 }

@@ -5,7 +5,7 @@ use mathlib.Core.Bool.{true, false}
 use mathlib.Core.List.{List}
 use Prim.Native.Nat.{ℕ, _+_, _*_, _-_, _%_, _≤_, _<_}
 use native.Mathlib.Omega.{arith}
-use lib.ListN.{length, set, take, drop}
+use lib.ListN.{length, set}
 use lib.Seq.{getD-set-other}
 use Rattle.lists.specs.Splice.{splice}
 use Rattle.lists.proofs.Splice.{splice-above}
@@ -21,12 +21,14 @@ use Rattle.rules.specs.declared.Refusal.the-variants.{BadState}
 use Rattle.rules.specs.declared.State.{State}
 use Rattle.rules.specs.declared.Verdict.{Verdict}
 use Rattle.rules.specs.declared.Verdict.the-variants.{Accepted, Rejected}
+use Rattle.rules.specs.declared.WordIndex.{WordIndex}
 use Rattle.rules.proofs.Good.{good-out}
 use Rattle.rules.proofs.Round.{next-in-four}
 use Rattle.rules.proofs.Rules.{start-out}
 use Rattle.places.specs.Turns.{turnOf, nextTurn}
 use Rattle.places.specs.declared.Seat.{Seat}
 use Rattle.places.specs.declared.Turn.the-variants.{Next}
+use Rattle.regions.specs.Lookup.{foundIndex}
 use Rattle.regions.specs.declared.Found.{Found}
 use Rattle.regions.specs.declared.Found.the-variants.{At, StartsOutside, EndsOutside}
 use Rattle.block.specs.Blocks.{word, contextWords, blockOf, isBlock, stateOf}
@@ -35,15 +37,13 @@ use Rattle.block.proofs.Bounds.{block-out}
 use Rattle.block.proofs.Changes.{laws}
 use Rattle.block.proofs.Forth.{block-forth}
 use Rattle.block.proofs.Lengths.{context-words-length}
-use Rattle.opening.specs.Opening.{lentBy, find}
+use Rattle.opening.specs.Opening.{lentBy, find, index}
 use Rattle.opening.specs.Opening as opening
 use Rattle.sending.specs.Sendings.{decideSend, byTurn, sendingAs, sending, sendAnswer, bufferAfter, stateSent, sentOut}
 use Rattle.sending.specs.declared.Sending.{Sending}
 use Rattle.sending.specs.declared.Sending.the-variants.{Keep, Send}
 use Rattle.sending.proofs.Slots.{slot-decided}
 use Rattle.lent_places.proofs.Answers.{placed-is}
-use Rattle.lent_regions.specs.Finding.{findIn}
-use Rattle.lent_state.proofs.Uses.{found-in}
 use Rattle.lent_slot.specs.OnBlock.{sendingOn, blockSent}
 
 -- THE FACTS
@@ -59,13 +59,11 @@ module _ (b : List ℕ) (block : isBlock b ≡ true) where
         let u : word b 53 ≤ 15 = start-out (stateOf b .regions) (stateOf b .count) (stateOf b .pools) (stateOf b .unit) (g .rules) .low in
         (omega arith, omega arith)
 
-    pub sent-on : (x : Seat) (tick : ℕ) {f : Found} {d : Sending} {n count unit : ℕ} → n ≡ word b 0 → count ≡ word b 76 → unit ≡ word b 53
-        → f ≡ findIn (take 48 (drop 1 b)) n (x .dump .range)
-        → d ≡ decideSend x f (count % 65536) (unit % 256) tick → d ≡ byTurn (stateOf b) tick (Next x)
+    pub sent-on : (x : Seat) (tick : ℕ) {f : Found} {at : WordIndex} {d : Sending} {count unit : ℕ} → count ≡ word b 76 → unit ≡ word b 53
+        → f ≡ find (stateOf b) (x .dump .range) → at ≡ foundIndex (stateOf b .regions) (x .dump .range) f
+        → d ≡ decideSend x f at (count % 65536) (unit % 256) tick → d ≡ byTurn (stateOf b) tick (Next x)
     unfolding stateOf
-    sent-on x tick {f} en ec eu e g =
-        let h : f ≡ find (stateOf b) (x .dump .range) = found-in b block good _ en (x .dump .range) e in
-        g ∙ rw (ec, eu, counts-low .0, counts-low .1, h)
+    sent-on x tick ec eu ef ei g = g ∙ rw (ec, eu, counts-low .0, counts-low .1, ei, ef)
 
 -- THE DECISION
 
@@ -94,14 +92,14 @@ Low (Keep r) = Unit {0}
 Low (Send x) = (x .place < 4) × (28 + 4 * x .packet .words < 4294967296)
 
 module _ (s : State) (tick : ℕ) where
-  low-found : (x : Seat) (f : Found) → x .place < 4 → Low (decideSend x f (s .packets) (s .unit) tick)
-  low-found x StartsOutside l = tt
-  low-found x EndsOutside l = tt
-  low-found x (At spot) l = (l, omega arith)
+  low-found : (x : Seat) (f : Found) (at : WordIndex) → x .place < 4 → Low (decideSend x f at (s .packets) (s .unit) tick)
+  low-found x StartsOutside at l = tt
+  low-found x EndsOutside at l = tt
+  low-found x (At spot) at l = (l, omega arith)
 
   low-turn : (p : ℕ) (a : Context) → p < 4 → Low (byTurn s tick (turnOf p a))
   low-turn p Idle l = tt
-  low-turn p (Busy d) l = low-found (record { place = p; dump = d }) (find s (d .range)) l
+  low-turn p (Busy d) l = low-found (record { place = p; dump = d }) (find s (d .range)) (index s (d .range)) l
 
   low-lent : (v : Verdict) → Low (sendingAs s tick v)
   unfolding nextTurn

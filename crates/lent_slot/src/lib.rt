@@ -15,8 +15,9 @@ use block::set_word;
 use block::word_at;
 use lent_places::next_turn;
 use lent_places::put_context;
-use lent_regions::find_region;
+use lent_state::find;
 use lent_state::good_words;
+use lent_state::index;
 use opening::lent_verdict;
 use places::Turn;
 use results::hand_over;
@@ -36,10 +37,11 @@ fn by_turn(b: &[u32], tick: u32) -> Sending
         Turn::Nobody => nothing_to_send(),
         Turn::Next(s) => {
             let range = s.dump.range;
-            let found = find_region(&b[1..49], word_at(b, 0) as usize, range);
+            let found = find(b, range);
+            let first = index(b, range, found);
             let count = (word_at(b, 76) % 65536) as u16;
             let unit = (word_at(b, 53) % 256) as u8;
-            send(s, found, count, unit, tick)
+            send(s, found, first, count, unit, tick)
         }
     }
 }

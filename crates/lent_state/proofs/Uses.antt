@@ -9,9 +9,10 @@ use lib.ListN.{length, take, drop, length-take, length-drop}
 use Rattle.rules.specs.Commands.{firstIdle, firstWith}
 use Rattle.rules.specs.States.{goodState}
 use Rattle.rules.specs.declared.Range.{Range}
+use Rattle.rules.specs.declared.WordIndex.{WordIndex}
 use Rattle.rules.proofs.Good.{good-out}
 use Rattle.rules.proofs.Rules.{start-out}
-use Rattle.regions.specs.Lookup.{findRegion}
+use Rattle.regions.specs.Lookup.{findRegion, wordIndex}
 use Rattle.regions.specs.declared.Found.{Found}
 use Rattle.regions.proofs.Answers.{found-in-order}
 use Rattle.places.specs.Turns.{firstWithin, nextTurn}
@@ -19,8 +20,8 @@ use Rattle.places.specs.declared.Turn.{Turn}
 use Rattle.block.specs.Blocks.{word, regionsIn, placesIn, stateOf, isBlock}
 use Rattle.block.proofs.Bounds.{block-out}
 use Rattle.block.proofs.Parts.{regions-part, places-part}
-use Rattle.lent_regions.specs.Finding.{findIn}
-use Rattle.lent_regions.proofs.Steps.{of-table}
+use Rattle.lent_regions.specs.Finding.{findIn, wordIndexIn}
+use Rattle.lent_regions.proofs.Steps.{of-table, index-of-table}
 use Rattle.lent_places.specs.Reading.{placesRead}
 use Rattle.lent_places.proofs.Answers.{block-places}
 
@@ -34,6 +35,15 @@ module _ (b : List ℕ) where
       let part : 48 ≤ length (take 48 (drop 1 b)) = simp (length-take, length-drop) (omega arith) in
       let start = start-out (stateOf b .regions) (stateOf b .count) (stateOf b .pools) (stateOf b .unit) (good-out (stateOf b) good .rules) in
       found-in-order (regionsIn b 1) (word b 0) a (rw (regions-part b 1, en) at (e ∙ of-table (take 48 (drop 1 b)) n a part)) (start .table)
+
+  -- where a range that region k holds begins in the image
+  pub index-in : isBlock b ≡ true → (k : ℕ) (a : Range) {x : WordIndex}
+      → x ≡ wordIndexIn (take 48 (drop 1 b)) k a → x ≡ wordIndex (stateOf b .regions) k a
+  unfolding stateOf
+  index-in block k a e =
+      let l = block-out b block .words in
+      let part : 48 ≤ length (take 48 (drop 1 b)) = simp (length-take, length-drop) (omega arith) in
+      rw (regions-part b 1) at (e ∙ index-of-table (take 48 (drop 1 b)) k a part)
 
   -- whose packet is next
   pub turn-in : isBlock b ≡ true → (last : ℕ) → last ≡ word b 74 → {r : Turn} → r ≡ nextTurn (placesRead (take 20 (drop 54 b))) last

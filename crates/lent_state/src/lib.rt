@@ -1,13 +1,14 @@
 // The state in a block of the caller's memory: whether it is good, and start-up. The regions, pools and places of a block are parts of it.
 ghost use mathlib.Core.Path.{_≡_};
-ghost use mathlib.Core.Bool.{true};
+ghost use mathlib.Core.Bool.{true, _&&_};
 ghost use Prim.Native.Nat.{_<_, _≤_};
 ghost use lib.ListN.{length, replicate};
 ghost use Rattle.lists.specs.Below.{allBelow};
 ghost use Rattle.rules.specs.Regions.{tableRules};
 ghost use Rattle.rules.specs.Results.{verdictNumber};
-ghost use Rattle.rules.specs.States.{poolRules, dumpRules, noState};
-ghost use Rattle.block.specs.Blocks.{word, blockOf, regionsIn};
+ghost use Rattle.rules.specs.States.{poolRules, dumpRules, noState, goodState};
+ghost use Rattle.regions.specs.Lookup.{findRegion, foundIndex};
+ghost use Rattle.block.specs.Blocks.{word, blockOf, stateOf, isBlock, regionsIn};
 ghost use Rattle.block.specs.Calls.{goodWords, lgStartUp};
 ghost use Rattle.lent_state.specs.Tests.{goodTable, wordRules, poolsRules, placeTests};
 ghost use Rattle.lent_state.specs.Writing.{tableWritten};
@@ -21,13 +22,16 @@ use lent_places::place_bounds;
 use lent_regions::find_region;
 use lent_regions::rights_bounds;
 use lent_regions::table_words;
+use lent_regions::word_index;
 use places::dump_fields;
+use regions::Found;
 use regions::can_dump;
 use rules::ActiveDump;
 use rules::Context;
 use rules::Range;
 use rules::Refusal;
 use rules::Verdict;
+use rules::WordIndex;
 
 // THE RULES, over the 48 words of a table by its rules
 
@@ -200,4 +204,26 @@ pub fn start_up(t: &[u32], b: &mut [u32]) -> Verdict
     }
     put_table(t, b);
     Verdict::Accepted
+}
+
+// THE LOOKUP in a good block
+
+// The region that holds a range, or how it missed.
+pub fn find(b: &[u32], a: Range) -> Found
+    requires { ⌜ (isBlock (now b) && goodState (stateOf (now b))) ≡ true ⌝ }
+    ensures { λ f. ⌜ f ≡ findRegion (stateOf (now (b .entry)) .regions) (stateOf (now (b .entry)) .count) a ⌝ }
+{
+    find_region(&b[1..49], b[0] as usize, a)
+}
+
+// Where a range that was found begins in the image. With the match in `word_index` a load takes 2 ns more.
+pub fn index(b: &[u32], a: Range, found: Found) -> WordIndex
+    requires { ⌜ (isBlock (now b) && goodState (stateOf (now b))) ≡ true ⌝ }
+    ensures { λ w. ⌜ w ≡ foundIndex (stateOf (now (b .entry)) .regions) a found ⌝ }
+{
+    match found {
+        Found::StartsOutside => WordIndex(0),
+        Found::EndsOutside => WordIndex(0),
+        Found::At(spot) => word_index(&b[1..49], spot.region, a),
+    }
 }

@@ -4,7 +4,7 @@ use mathlib.Core.Path.{_≡_}
 use mathlib.Core.Logic.{_≢_}
 use mathlib.Core.Bool.{true}
 use mathlib.Core.List.{List}
-use Prim.Native.Nat.{ℕ, _≤_, min}
+use Prim.Native.Nat.{ℕ, _≤_}
 use native.Mathlib.Omega.{arith}
 use lib.Dec.{eqb}
 use lib.ListN.{length}
@@ -14,16 +14,12 @@ use Rattle.rules.specs.Regions.{imageLength}
 use Rattle.rules.specs.States.{goodState}
 use Rattle.rules.specs.Results.{lowest, lentRows}
 use Rattle.rules.proofs.Good.{GoodIs, good-out}
-use Rattle.rules.proofs.Located.{good-table}
 use Rattle.rules.proofs.Passed.{lowest-none}
 use Rattle.rules.proofs.Rules.{StartIs, start-out}
-use Rattle.rules.specs.declared.Range.{Range}
 use Rattle.rules.specs.declared.State.{State}
 use Rattle.rules.specs.declared.Verdict.the-variants.{Accepted}
-use Rattle.regions.specs.Halving.{findByHalving}
-use Rattle.regions.specs.declared.Found.{Found}
-use Rattle.regions.proofs.Answers.{some-words, found-in-order}
-use Rattle.opening.specs.Opening.{lentBy, goodWords, find}
+use Rattle.regions.proofs.Answers.{some-words}
+use Rattle.opening.specs.Opening.{lentBy, goodWords}
 
 -- what 1 to 3 passed say
 pub record LentIs (s : State) (image : List ℕ) (size : ℕ) (buffer : List ℕ) : Type 0 where
@@ -56,10 +52,6 @@ pub lent-good : (s : State) (image size buffer : ℕ) → lentBy (goodWords s) i
 unfolding goodWords
 lent-good s image size buffer h =
     either (goodState s) (λ g. g) (λ g. let k = rw g at h in let z : _≡_ {A = ℕ} 0 1 = cc in absurd (omega arith))
-
--- the lookup in its table
-pub found-good : (s : State) (a : Range) {f : Found} → f ≡ findByHalving (s .regions) (min (s .count) 16) a → goodState s ≡ true → f ≡ find s a
-found-good s a e g = found-in-order _ _ a e (good-table s g)
 
 -- a call that is lent enough has a good state
 pub lent-some : (w image size buffer : ℕ) → lentBy w image size buffer ≡ Accepted → w ≢ 0

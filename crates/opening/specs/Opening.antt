@@ -7,20 +7,15 @@ use lib.ListN.{length, take, drop}
 use Rattle.rules.specs.Regions.{imageLength}
 use Rattle.rules.specs.States.{goodState}
 use Rattle.rules.specs.declared.Range.{Range}
-use Rattle.rules.specs.declared.Reading.{Reading}
-use Rattle.rules.specs.declared.Reading.the-variants.{Unread, Read}
 use Rattle.rules.specs.declared.Refusal.the-variants.{BadState, ImageLength, BufferLength}
 use Rattle.rules.specs.declared.State.{State}
 use Rattle.rules.specs.declared.Verdict.{Verdict}
+use Rattle.rules.specs.declared.WordIndex.{WordIndex}
 use Rattle.rules.specs.declared.Verdict.the-variants.{Accepted, Rejected}
-use Rattle.packet.specs.Frame.{frameOf}
-use Rattle.tasks.specs.Asked.{askedOf}
+use Rattle.tasks.specs.Asked.{ifPassed, soughtIn}
 use Rattle.tasks.specs.declared.Sought.{Sought}
-use Rattle.tasks.specs.declared.Sought.the-variants.{Denied, Asked}
-use Rattle.regions.specs.Lookup.{findRegion}
+use Rattle.regions.specs.Lookup.{findRegion, foundIndex}
 use Rattle.regions.specs.declared.Found.{Found}
-use Rattle.opening.specs.declared.Opened.{Opened}
-use Rattle.opening.specs.declared.Opened.the-variants.{Shut, Open}
 
 -- NUMBERS 1 TO 9, 17 AND 18
 
@@ -30,20 +25,11 @@ lentBy words image size buffer =
     cond (eqb words 0) (Rejected BadState)
     (cond (eqb image words) (cond (ltb buffer size) (Rejected BufferLength) Accepted) (Rejected ImageLength))
 
-abbrev pub ordered : ℕ → Sought → Opened
-ordered t (Denied r) = Shut r
-ordered t (Asked k) = Open (record { transaction = t; task = k })
+-- 1 to 9, 17 and 18, or the task
+abbrev pub openedAs : Verdict → List ℕ → List ℕ → ℕ → Sought
+openedAs v p symbols unit = ifPassed v (soughtIn p unit symbols)
 
--- 9, 17, 18, or what a packet asks for that passed 4 to 8
-abbrev pub orderOf : List ℕ → List ℕ → Reading → Opened
-orderOf symbols p (Unread r) = Shut r
-orderOf symbols p (Read f) = ordered (f .header .transaction) (askedOf symbols p (f .command))
-
-abbrev pub openedAs : Verdict → List ℕ → List ℕ → ℕ → Opened
-openedAs (Rejected r) p symbols unit = Shut r
-openedAs Accepted p symbols unit = orderOf symbols p (frameOf p unit)
-
-abbrev pub openedBy : ℕ → ℕ → ℕ → List ℕ → List ℕ → ℕ → Opened
+abbrev pub openedBy : ℕ → ℕ → ℕ → List ℕ → List ℕ → ℕ → Sought
 openedBy words image reply p symbols unit = openedAs (lentBy words image 32 reply) p symbols unit
 
 -- THE FACTS that both calls ask for
@@ -54,6 +40,10 @@ goodWords s = cond (goodState s) (imageLength (s .regions) (s .count)) 0
 
 abbrev pub find : State → Range → Found
 find s a = findRegion (s .regions) (s .count) a
+
+-- where a range that is found begins in the image
+abbrev pub index : State → Range → WordIndex
+index s a = foundIndex (s .regions) a (find s a)
 
 -- the words of the image from an index on, and none where they are not all there
 abbrev pub wordsFrom : List ℕ → ℕ → ℕ → List ℕ

@@ -4,22 +4,22 @@ use mathlib.Core.Path.{_≡_, refl, sym, ap, _∙_}
 use mathlib.Core.Logic.{_≢_}
 use mathlib.Core.Bool.{Bool, true, false, cond}
 use mathlib.Core.List.{List}
-use Prim.Native.Nat.{ℕ, _+_, _-_, _/_, min, _≤_}
+use Prim.Native.Nat.{ℕ, _-_, min, _≤_}
 use native.Mathlib.Nat.{min-eq-left}
 use native.Mathlib.Omega.{arith}
-use lib.Dec.{leb}
-use borrow.Author.Tests.{leb-true, le-leb}
+use lib.Dec.{leb, ltb}
+use borrow.Author.Tests.{leb-true, le-leb, lt-ltb}
 use Rattle.lists.proofs.Tests.{either, contra}
 use Rattle.lists.proofs.Below.{sum-part}
-use Rattle.rules.specs.Regions.{startOf, endOf, regionAt, rangeAt, tableRules, anyRight, dumpRight, inOneRegion, firstOf, startsInside, wordsBelow, imageLength, regionOf, indexIn}
-use Rattle.rules.specs.GoodWhen.{LiesIn, StartsIn, firstWord}
+use Rattle.rules.specs.Regions.{endOf, regionAt, rangeAt, tableRules, anyRight, dumpRight, inOneRegion, firstOf, startsInside, wordsBelow, imageLength, regionOf, imageIndex}
+use Rattle.rules.specs.GoodWhen.{LiesIn, StartsIn}
 use Rattle.rules.proofs.Located.{words-sum}
-use Rattle.regions.specs.declared.Spot.{Spot}
 use Rattle.rules.proofs.Table.{table-count, table-region, region-holds, holds-unique, one-out, one-in, one-any, holds-any, starts-out, starts-in, starts-there}
 use Rattle.rules.specs.declared.Range.{Range}
 use Rattle.rules.specs.declared.Region.{Region}
+use Rattle.rules.specs.declared.WordIndex.{WordIndex}
 use Rattle.regions.specs.Halving.{findByHalving}
-use Rattle.regions.specs.Lookup.{tableWords, spotIn, foundIn, findRegion, canDump, FoundWhen}
+use Rattle.regions.specs.Lookup.{tableWords, spotIn, foundIn, findRegion, canDump, FoundWhen, wordIndex, foundIndex, IndexWhen}
 use Rattle.regions.specs.declared.Found.{Found}
 use Rattle.regions.specs.declared.Found.the-variants.{At, StartsOutside, EndsOutside}
 use Rattle.regions.proofs.InOrder.{right-in-order}
@@ -89,24 +89,13 @@ module _ (rs : List Region) (n : ℕ) (a : Range) (rules : tableRules rs n ≡ t
   not-held : (i : ℕ) → leb (endOf a) (endOf (rangeAt rs i)) ≡ false → LiesIn anyRight rs n a i → ⊥
   not-held i l h = contra (le-leb _ _ (h .to)) l
 
-  -- the spot field by field
-  spot-plain : (i : ℕ)
-      → spotIn rs a i
-      ≡ record {
-        region = i;
-        index = record { 0 = firstWord rs i + (startOf a - startOf (rangeAt rs i)) / 4 };
-        load = regionAt rs i .load;
-        dump = regionAt rs i .dump;
-      }
-  spot-plain i = rw (words-sum rs i)
-
-  when-whole : (i : ℕ) → StartsIn rs n a i → LiesIn anyRight rs n a i → FoundWhen rs n a (At (spotIn rs a i))
+  when-whole : (i : ℕ) → StartsIn rs n a i → LiesIn anyRight rs n a i → FoundWhen rs n a (At (spotIn rs i))
   when-whole i h l =
       record {
         outside = (λ e. absurd (omega arith), λ f. absurd (f i h));
         runs-out = (λ e. absurd (omega arith), λ (j, k, m). absurd (m (rw (one-start j i k h) l)));
         found = (λ e. (i, h, l), λ q. refl);
-        spot = λ j k m. ap (λ x. At (spotIn rs a x)) (one-start i j h k) ∙ ap (λ (x : Spot). At x) (spot-plain j);
+        spot = λ j k m. ap (λ x. At (spotIn rs x)) (one-start i j h k);
       }
 
   when-short : (i : ℕ) → StartsIn rs n a i → (LiesIn anyRight rs n a i → ⊥) → FoundWhen rs n a EndsOutside
@@ -140,7 +129,7 @@ module _ (rs : List Region) (n : ℕ) (a : Range) (rules : tableRules rs n ≡ t
   -- by the region that holds the range whole, if it has a word or more
   pub found-whole : 1 ≤ a .words
       → findRegion rs n a
-      ≡ cond (inOneRegion anyRight rs n a) (At (spotIn rs a (regionOf rs n a))) (cond (startsInside rs n a) EndsOutside StartsOutside)
+      ≡ cond (inOneRegion anyRight rs n a) (At (spotIn rs (regionOf rs n a))) (cond (startsInside rs n a) EndsOutside StartsOutside)
   found-whole one =
       either (inOneRegion anyRight rs n a)
       (λ h. let r = region-holds rs n a h in found-there _ (starts-there rs n a one _ r) ∙ rw (h, le-leb _ _ (r .to)))
@@ -188,3 +177,25 @@ module _ (rs : List Region) (n : ℕ) (a : Range) where
   pub can-dump-of : (f : Found) → f ≡ findByHalving rs (min n 16) a → (b : Bool) → b ≡ canDump f → tableRules rs n ≡ true → 1 ≤ a .words
       → b ≡ inOneRegion dumpRight rs n a
   can-dump-of f ef b eb rules one = eb ∙ rw (found-in-order ef rules) (can-dump-found rules one)
+
+-- THE INDEX of a range that was found
+
+module _ (rs : List Region) (a : Range) where
+  -- in a table by the rules it is where paper 01 has it
+  pub index-whole : (n : ℕ) → tableRules rs n ≡ true → 1 ≤ a .words → inOneRegion anyRight rs n a ≡ true → foundIndex rs a (findRegion rs n a) ≡ imageIndex rs n a
+  unfolding imageIndex
+  index-whole n rules one h =
+      let low = table-count rs n rules .1 in
+      let used = region-holds rs n a h .in-use in
+      let there : ltb (regionOf rs n a) 16 ≡ true = lt-ltb (regionOf rs n a) 16 (omega arith) in
+      rw (found-whole rs n a rules one, h, there)
+
+  -- and what is promised of it
+  pub indexed : (k : ℕ) (w : WordIndex) → w ≡ wordIndex rs k a → (w ≡ wordIndex rs k a) × ((n : ℕ) → tableRules rs n ≡ true → IndexWhen rs n k a w)
+  indexed k w e = (e, there)
+    where
+      there : (n : ℕ) → tableRules rs n ≡ true → IndexWhen rs n k a w
+      there n rules l =
+          let low = table-count rs n rules .1 in
+          let used = l .in-use in
+          ap (λ (x : WordIndex). x .0) e ∙ rw (lt-ltb k 16 (omega arith), words-sum rs k)

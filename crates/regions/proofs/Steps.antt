@@ -157,8 +157,7 @@ module _ (rs : List Region) (m : ℕ) (a : Range) (k : ℕ) (ek : k ≡ regionBy
   unfolding findByHalving
   found-short l q = rw (← ek, lt-ltb k m l, lt-leb (endOf a) (endOf (rangeAt rs k)) q)
 
-  pub found-at : k < m → endOf a ≤ endOf (rangeAt rs k) → (below before : ℕ) → below ≡ wordsBelow rs k
-      → before ≡ (startOf a - startOf (rangeAt rs k)) / 4
-      → At (record { region = k; index = record { 0 = below + before }; load = regionAt rs k .load; dump = regionAt rs k .dump }) ≡ findByHalving rs m a
+  pub found-at : k < m → endOf a ≤ endOf (rangeAt rs k)
+      → At (record { region = k; load = regionAt rs k .load; dump = regionAt rs k .dump }) ≡ findByHalving rs m a
   unfolding findByHalving
-  found-at l q below before eb eo = rw (← ek, lt-ltb k m l, le-leb (endOf a) (endOf (rangeAt rs k)) q, eb, eo)
+  found-at l q = rw (← ek, lt-ltb k m l, le-leb (endOf a) (endOf (rangeAt rs k)) q)

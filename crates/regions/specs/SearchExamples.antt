@@ -7,7 +7,7 @@ use Rattle.rules.specs.Examples.{range, both}
 use Rattle.rules.specs.Regions.{tableRules, regionOf}
 use Rattle.rules.specs.declared.Region.{Region}
 use Rattle.regions.specs.Halving.{regionByHalving, compared, findByHalving}
-use Rattle.regions.specs.Lookup.{foundNumber}
+use Rattle.regions.specs.Lookup.{foundNumber, foundIndex}
 use Rattle.regions.specs.declared.Found.the-variants.{At}
 
 abbrev pub numbers : List ℕ
@@ -32,9 +32,10 @@ pub record SearchExamples : Type 0 where
   -- one word past each region's end: over an edge, in the gap, past the table
   pub past : map (λ i. regionByHalving sixteen 16 (range (startAt i) 5)) numbers ≡ map (λ i. 16) numbers
   pub outside : map (λ (a : ℕ). regionByHalving sixteen 16 (range a 1)) (0x0FFC ∷ 0x1080 ∷ 0x108C ∷ 0x1110 ∷ []) ≡ 16 ∷ 16 ∷ 16 ∷ 16 ∷ []
-  -- the lookup: two words inside each region, with its number and the index of the first; one word past each region's end; in the gap
+  -- the lookup: two words inside each region, with its number, and the index of the first; one word past each region's end; in the gap
   pub found : map (λ i. findByHalving sixteen 16 (range (startAt i + 4) 2)) numbers
-      ≡ map (λ i. At (record { region = i; index = record { 0 = 4 * i + 1 }; load = true; dump = true })) numbers
+      ≡ map (λ i. At (record { region = i; load = true; dump = true })) numbers
+  pub index : map (λ i. foundIndex sixteen (range (startAt i + 4) 2) (findByHalving sixteen 16 (range (startAt i + 4) 2)) .0) numbers ≡ map (λ i. 4 * i + 1) numbers
   pub runs-out : map (λ i. foundNumber (findByHalving sixteen 16 (range (startAt i + 12) 2))) numbers ≡ map (λ i. 19) numbers
   pub starts-outside : map (λ (a : ℕ). foundNumber (findByHalving sixteen 16 (range a 2))) (0x0FFC ∷ 0x1080 ∷ 0x108C ∷ 0x1110 ∷ []) ≡ 10 ∷ 10 ∷ 10 ∷ 10 ∷ []
   -- the regions that are compared, in order

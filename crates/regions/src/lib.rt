@@ -6,7 +6,7 @@ ghost use Prim.Native.Nat.{ℕ, _+_, _*_, _-_, _/_, _≤_, min};
 ghost use lib.ListN.{length};
 ghost use Rattle.rules.specs.Regions.{tableRules, firstOf, wordsBelow};
 ghost use Rattle.regions.specs.Halving.{regionByHalving, compared, AtMostFive, NumberSettled, RightInOrder, findByHalving};
-ghost use Rattle.regions.specs.Lookup.{rulesBy, holdsBy, tableWords, canDump, FoundWhen};
+ghost use Rattle.regions.specs.Lookup.{rulesBy, holdsBy, tableWords, canDump, FoundWhen, wordIndex, IndexWhen};
 ghost use Rattle.regions.specs.SearchExamples.{SearchExamples};
 ghost use Rattle.rules.specs.declared.Range.{Range};
 ghost use Rattle.rules.specs.declared.Region.{Region};
@@ -14,15 +14,14 @@ use rules::Range;
 use rules::Region;
 use rules::WordIndex;
 
-// Where a range begins: the index in the image of its first word, and its region's number and rights.
+// The region that holds a range whole: its number and rights.
 pub struct Spot {
-    pub index: WordIndex,
     pub region: u8,
     pub load: bool,
     pub dump: bool,
 }
 
-// Where a range lies; or that its first word is in no region, or that it starts inside a region and runs out of it.
+// The region that a range lies in; or that its first word is in no region, or that it starts inside a region and runs out of it.
 pub enum Found {
     At(Spot),
     StartsOutside,
@@ -168,7 +167,7 @@ fn words_below(rs: [Region; 16], k: usize) -> usize
     total
 }
 
-// The region that holds the range whole, and where the range begins in the image; or how it missed. The search is for its first word.
+// The region that holds the range whole, or how it missed. The search is for its first word.
 pub fn find_region(rs: [Region; 16], n: usize, a: Range) -> Found
     ensures { λ f. ⌜ (f ≡ findByHalving rs (min n 16) a) × (tableRules rs n ≡ true → FoundWhen rs n a f) ⌝ }
 {
@@ -181,15 +180,26 @@ pub fn find_region(rs: [Region; 16], n: usize, a: Range) -> Found
     if end_of(r.range.start.0, r.range.words) < end_of(a.start.0, a.words) {
         return Found::EndsOutside;
     }
-    let below = words_below(rs, k);
-    let before = words_before(r.range.start.0, a.start.0) as usize;
-    let at = below + before;
     Found::At(Spot {
-        index: WordIndex(at),
         region: k as u8,
         load: r.load,
         dump: r.dump,
     })
+}
+
+// The index in the image of the first word of a range that region k holds. Only this makes an index from an address, and only those ask it that
+// read or write the range's words.
+pub fn word_index(rs: [Region; 16], k: u8, a: Range) -> WordIndex
+    ensures { λ w. ⌜ (w ≡ wordIndex rs k a) × ((n : ℕ) → tableRules rs n ≡ true → IndexWhen rs n k a w) ⌝ }
+{
+    let i = k as usize;
+    if 16 <= i {
+        return WordIndex(0);
+    }
+    let r = rs[i];
+    let below = words_below(rs, i);
+    let before = words_before(r.range.start.0, a.start.0) as usize;
+    WordIndex(below + before)
 }
 
 // THE LAWS, and examples. These functions do nothing: the contract of each is what is proved.

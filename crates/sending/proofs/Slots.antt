@@ -32,10 +32,10 @@ use Rattle.rules.specs.declared.Verdict.the-variants.{Accepted, Rejected}
 use Rattle.bulk.specs.DumpBytes.{dumpPacketBytes, packetFits}
 use Rattle.bulk.proofs.Packet.{slot-packet}
 use Rattle.places.specs.Turns.{turnOf, nextTurn}
-use Rattle.regions.proofs.Answers.{found-whole}
+use Rattle.regions.proofs.Answers.{found-whole, index-whole}
 use Rattle.regions.specs.declared.Found.{Found}
 use Rattle.regions.specs.declared.Found.the-variants.{At, StartsOutside, EndsOutside}
-use Rattle.opening.specs.Opening.{lentBy, goodWords, find}
+use Rattle.opening.specs.Opening.{lentBy, goodWords, find, index}
 use Rattle.sending.specs.Sendings.{decideSend, byTurn, sendingAs, sending, sendAnswer, bufferAfter, stateSent, sentOut, PlaceFits, SlotDecided}
 use Rattle.sending.specs.declared.Sending.{Sending}
 use Rattle.sending.specs.declared.Sending.the-variants.{Keep}
@@ -129,9 +129,10 @@ module _ (s : State) (c : SlotArgs) (lent : LentIs s (c .image) longestPacket (c
     same-length = omega (arith, packet-length s (c .tick) d (nextWords s (c .image) d), ap length part-words, part-length)
 
     serve-dump : (p : ℕ) → serve s c p (Busy d)
-        ≡ sentOut s c (decideSend (record { place = p; dump = d }) (find s (d .range)) (s .packets) (s .unit) (c .tick))
-    unfolding imageIndex
-    serve-dump p = rw (found-whole _ _ (d .range) (lent .start .table) (omega (arith, is .more)), inside, here-fits, from-fits, le-leb _ _ part-fits, fields-fit, same-length, same-packet)
+        ≡ sentOut s c (decideSend (record { place = p; dump = d }) (find s (d .range)) (index s (d .range)) (s .packets) (s .unit) (c .tick))
+    serve-dump p =
+        let some : 1 ≤ d .range .words = omega (arith, is .more) in
+        rw (index-whole (s .regions) (d .range) (s .count) (lent .start .table) some inside, found-whole _ _ (d .range) (lent .start .table) some, inside, here-fits, from-fits, le-leb _ _ part-fits, fields-fit, same-length, same-packet)
 
   -- THE PLACE WHOSE TURN IT IS
 
@@ -186,7 +187,7 @@ by-turn-fits : (s : State) (tick p : ℕ) → p < 4 → (a : Context) → PlaceF
 by-turn-fits s tick p l Idle = tt
 by-turn-fits s tick p l (Busy d) = found (find s (d .range))
   where
-    found : (f : Found) → PlaceFits (decideSend (record { place = p; dump = d }) f (s .packets) (s .unit) tick)
+    found : (f : Found) → PlaceFits (decideSend (record { place = p; dump = d }) f (index s (d .range)) (s .packets) (s .unit) tick)
     found StartsOutside = tt
     found EndsOutside = tt
     found (At spot) = l

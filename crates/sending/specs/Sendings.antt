@@ -14,6 +14,7 @@ use Rattle.rules.specs.declared.Refusal.the-variants.{NothingToSend}
 use Rattle.rules.specs.declared.State.{State}
 use Rattle.rules.specs.declared.Verdict.{Verdict}
 use Rattle.rules.specs.declared.Verdict.the-variants.{Accepted, Rejected}
+use Rattle.rules.specs.declared.WordIndex.{WordIndex}
 use Rattle.bulk.specs.DumpBytes.{dumpPacketBytes, packetFits}
 use Rattle.places.specs.Turns.{nextTurn}
 use Rattle.places.specs.declared.Seat.{Seat}
@@ -21,15 +22,15 @@ use Rattle.places.specs.declared.Turn.{Turn}
 use Rattle.places.specs.declared.Turn.the-variants.{Nobody, Next}
 use Rattle.regions.specs.declared.Found.{Found}
 use Rattle.regions.specs.declared.Found.the-variants.{At, StartsOutside, EndsOutside}
-use Rattle.opening.specs.Opening.{lentBy, goodWords, find, wordsFrom}
+use Rattle.opening.specs.Opening.{lentBy, goodWords, find, index, wordsFrom}
 use Rattle.sending.specs.declared.Sending.{Sending}
 use Rattle.sending.specs.declared.Sending.the-variants.{Keep, Send}
 
--- the next packet of a dump whose range was found; no field is out of its type's bounds, whatever the facts
-abbrev pub decideSend : Seat → Found → ℕ → ℕ → ℕ → Sending
-decideSend x StartsOutside count unit tick = Keep NothingToSend
-decideSend x EndsOutside count unit tick = Keep NothingToSend
-decideSend x (At spot) count unit tick =
+-- the next packet of a dump whose range was found, and begins at this index; no field is out of its type's bounds, whatever the facts
+abbrev pub decideSend : Seat → Found → WordIndex → ℕ → ℕ → ℕ → Sending
+decideSend x StartsOutside at count unit tick = Keep NothingToSend
+decideSend x EndsOutside at count unit tick = Keep NothingToSend
+decideSend x (At spot) at count unit tick =
     Send
     (record {
       packet =
@@ -40,7 +41,7 @@ decideSend x (At spot) count unit tick =
             here = record { 0 = (startOf (x .dump .range) + 4 * x .dump .sent) % 4294967296 };
             words = min 1016 (x .dump .range .words - x .dump .sent);
           };
-      from = record { 0 = min (spot .index .0 + x .dump .sent) 18446744073709551615 };
+      from = record { 0 = min (at .0 + x .dump .sent) 18446744073709551615 };
       place = x .place;
       after = afterPacket (x .dump);
     })
@@ -49,7 +50,7 @@ decideSend x (At spot) count unit tick =
 
 abbrev pub byTurn : State → ℕ → Turn → Sending
 byTurn s tick Nobody = Keep NothingToSend
-byTurn s tick (Next x) = decideSend x (find s (x .dump .range)) (s .packets) (s .unit) tick
+byTurn s tick (Next x) = decideSend x (find s (x .dump .range)) (index s (x .dump .range)) (s .packets) (s .unit) tick
 
 abbrev pub sendingAs : State → ℕ → Verdict → Sending
 sendingAs s tick (Rejected r) = Keep r

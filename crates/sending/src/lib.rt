@@ -63,18 +63,17 @@ pub fn nothing_to_send() -> Sending
     Sending::Keep(Refusal::NothingToSend)
 }
 
-// The next packet of the dump whose turn it is: `count` is the packet count of the dumps.
-pub fn send(seat: Seat, found: Found, count: u16, unit: u8, tick: u32) -> Sending
-    ensures { λ d. ⌜ d ≡ decideSend seat found count unit tick ⌝ }
+// The next packet of the dump whose turn it is: `first` is the index in the image of its range's first word, `count` the packet count of the dumps.
+pub fn send(seat: Seat, found: Found, first: WordIndex, count: u16, unit: u8, tick: u32) -> Sending
+    ensures { λ d. ⌜ d ≡ decideSend seat found first count unit tick ⌝ }
 {
     let d = seat.dump;
     match found {
         // never: a dump of a good state lies in a region
         Found::StartsOutside => nothing_to_send(),
         Found::EndsOutside => nothing_to_send(),
-        Found::At(spot) => {
+        Found::At(_) => {
             let range = d.range;
-            let first = spot.index;
             let header = Header {
                 count,
                 unit,

@@ -14,7 +14,6 @@ use opening::lent_verdict;
 use places::Turn;
 use places::next_turn;
 use places::set_context;
-use regions::find_region;
 use rules::Returned;
 use rules::State;
 use rules::Verdict;
@@ -22,7 +21,9 @@ use sending::Sending;
 use sending::nothing_to_send;
 use sending::send;
 use sending::send_out;
+use state::find;
 use state::good_words;
+use state::index;
 
 // The decision on a slot of a good state.
 fn by_turn(s: State, tick: u32) -> Sending
@@ -33,10 +34,10 @@ fn by_turn(s: State, tick: u32) -> Sending
     match turn {
         Turn::Nobody => nothing_to_send(),
         Turn::Next(x) => {
-            let rs = s.regions;
             let range = x.dump.range;
-            let found = find_region(rs, s.count, range);
-            send(x, found, s.packets, s.unit, tick)
+            let found = find(s, range);
+            let first = index(s, range, found);
+            send(x, found, first, s.packets, s.unit, tick)
         }
     }
 }

@@ -1,15 +1,18 @@
-// The good state, and start-up.
+// The good state, start-up, and the lookup.
 ghost use mathlib.Core.Path.{_≡_};
 ghost use mathlib.Core.Bool.{true, cond};
 ghost use Prim.Native.Nat.{_≤_};
 ghost use Rattle.rules.specs.Regions.{tableRules, imageLength};
 ghost use Rattle.rules.specs.States.{poolRules, startRules, entriesUsed, freshState, noState, startUp, dumpRules, placeRules, placesRules, countRules, goodState};
+ghost use Rattle.regions.specs.Lookup.{findRegion, foundIndex};
 use places::context_at;
 use places::dump_fields;
 use places::first_with;
+use regions::Found;
 use regions::can_dump;
 use regions::find_region;
 use regions::table_words;
+use regions::word_index;
 use rules::ActiveDump;
 use rules::Address;
 use rules::Context;
@@ -20,6 +23,7 @@ use rules::Region;
 use rules::Started;
 use rules::State;
 use rules::Verdict;
+use rules::WordIndex;
 
 // Whether a pool is none, or by the rules. The table is by the rules.
 fn pool_rules(rs: [Region; 16], n: usize, p: Range) -> bool
@@ -179,5 +183,27 @@ pub fn start_up(rs: [Region; 16], n: usize, ps: [Range; 2], unit: u8) -> Started
     Started {
         verdict: Verdict::Accepted,
         state,
+    }
+}
+
+// THE LOOKUP in a state
+
+// The region that holds a range, or how it missed. Right in a good state.
+pub fn find(s: State, a: Range) -> Found
+    ensures { λ f. ⌜ (goodState s ≡ true → f ≡ findRegion (s .regions) (s .count) a) ⌝ }
+{
+    let rs = s.regions;
+    find_region(rs, s.count, a)
+}
+
+// Where a range that was found begins in the image.
+pub fn index(s: State, a: Range, found: Found) -> WordIndex
+    ensures { λ w. ⌜ w ≡ foundIndex (s .regions) a found ⌝ }
+{
+    let rs = s.regions;
+    match found {
+        Found::StartsOutside => WordIndex(0),
+        Found::EndsOutside => WordIndex(0),
+        Found::At(spot) => word_index(rs, spot.region, a),
     }
 }

@@ -6,11 +6,12 @@ use mathlib.Core.Bool.{Bool, true, false, cond, not, _&&_}
 use mathlib.Core.List.{List, []}
 use Prim.Native.Nat.{ℕ, _+_, _-_, _%_, _≤_, _<_}
 use native.Mathlib.Omega.{arith}
-use lib.Dec.{leb}
+use lib.Dec.{leb, eqb}
 use lib.ListN.{length, getD, take, drop, length-drop, drop-of-length-le}
 use lib.Seq.{take-all, take-nil}
 use borrow.Author.Tests.{ne-eqb, lt-ltb, le-ltb, lt-leb, le-leb}
 use Rattle.lists.proofs.Tests.{either}
+use Rattle.wire.specs.Bytes.{beAt}
 use Rattle.symbols.specs.Table.{symbolTable, hasName, valueOf}
 use Rattle.symbols.specs.Answers.{foundIn, symbolOf}
 use Rattle.symbols.specs.declared.Symbol.{Symbol}
@@ -132,3 +133,8 @@ module _ (symbols p : List ℕ) where
     pub dump-as : (q : SymbolRequest) → fits ≡ nameFits (q .name) → zeros ≡ zeroRules p (DumpSymbol q)
         → soughtBy found (λ v. dumpFrom (movedUp v (q .offset)) (q .size)) ≡ askedOf symbols p (DumpSymbol q)
     dump-as q e z = rw (← dump-is q, ← e, ← z, ← g, f)
+
+-- the bits of a dump by name that hold no field
+pub zeros-of : (p : List ℕ) (q : SymbolRequest) {a b : Bool} → a ≡ eqb (getD p 11 0) 0 → b ≡ eqb (beAt 2 p 66) 0 → (a && b) ≡ zeroRules p (DumpSymbol q)
+unfolding zeroRules
+zeros-of p q e f = rw (e, f)

@@ -4,11 +4,15 @@ use mathlib.Core.List.{List}
 use Prim.Native.Nat.{ℕ, _-_, _%_}
 use lib.Dec.{leb, ltb, eqb}
 use Rattle.symbols.specs.Table.{symbolTable, hasName, valueOf}
-use Rattle.rules.specs.Packets.{nameIn}
+use Rattle.rules.specs.Packets.{nameIn, decode, packetLength}
+use Rattle.packet.specs.Frame.{headedOf, checkedBy}
+use Rattle.rules.specs.declared.Decoded.{Decoded}
+use Rattle.rules.specs.declared.Verdict.{Verdict}
+use Rattle.rules.specs.declared.Verdict.the-variants.{Accepted, Rejected}
 use Rattle.rules.specs.Commands.{taskOf, noTable, layoutRules, unknownName, wrongRange}
 use Rattle.rules.specs.declared.Command.{Command}
-use Rattle.rules.specs.declared.Decoded.the-variants.{Known}
-use Rattle.rules.specs.declared.Refusal.the-variants.{BadTable, BadField, UnknownSymbol}
+use Rattle.rules.specs.declared.Decoded.the-variants.{Unknown, Known}
+use Rattle.rules.specs.declared.Refusal.the-variants.{BadTable, BadField, UnknownSymbol, UnknownCode}
 use Rattle.rules.specs.declared.Task.{Task}
 use Rattle.rules.specs.declared.Task.the-variants.{DumpRange}
 use Rattle.tasks.specs.declared.Sought.{Sought}
@@ -24,6 +28,20 @@ askedOf symbols p k =
     (cond (unknownName symbols (nameIn p) (Known k)) (Denied UnknownSymbol)
     (cond (wrongRange symbols (nameIn p) (Known k)) (Denied BadField) (Asked (taskOf symbols (nameIn p) (Known k)))))
     (Denied BadField))
+
+-- what numbers 7 and 8 say, or what is asked
+abbrev pub ifPassed : Verdict → Sought → Sought
+ifPassed (Rejected r) s = Denied r
+ifPassed Accepted s = s
+
+-- 6, or 7 and 8 by the length of the command that the function code names, and then what it asks for
+abbrev pub pickedBy : List ℕ → ℕ → List ℕ → Decoded → Sought
+pickedBy p unit symbols Unknown = Denied UnknownCode
+pickedBy p unit symbols (Known k) = ifPassed (checkedBy p unit (packetLength k)) (askedOf symbols p k)
+
+-- 4 to 9, 17 and 18, or what a packet asks for
+unfoldable pub soughtIn : List ℕ → ℕ → List ℕ → Sought
+soughtIn p unit symbols = ifPassed (headedOf p) (pickedBy p unit symbols (decode p))
 
 -- THE STEPS
 

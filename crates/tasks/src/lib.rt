@@ -1,27 +1,40 @@
 // What a command asks the service to do, once its symbol is resolved; and the reply that tells a symbol's value.
 ghost use mathlib.Core.Path.{_≡_};
-ghost use Prim.Native.Nat.{_%_, _≤_, _<_};
+ghost use Prim.Native.Nat.{ℕ, _%_, _≤_, _<_};
 ghost use lib.ListN.{length};
 ghost use Rattle.lists.specs.Splice.{splice};
 ghost use Rattle.wire.specs.Bytes.{wordBytes};
-ghost use Rattle.rules.specs.Packets.{nameIn, requested};
+ghost use mathlib.Core.List.{List};
+ghost use Rattle.wire.specs.Bytes.{beAt};
+ghost use Rattle.rules.specs.Packets.{nameIn, nameSizeOf, requestOf, symbolRequestOf, decode, requested};
 ghost use Rattle.rules.specs.Values.{movedUp, valueBytes};
-ghost use Rattle.rules.specs.declared.Command.the-variants.{SymbolValue, DumpSymbol};
+ghost use Rattle.rules.specs.declared.Command.the-variants.{Dump, Cancel, Load, PoolStatistics, SymbolValue, DumpSymbol};
 ghost use Rattle.symbols.specs.Answers.{KnownOf};
-ghost use Rattle.tasks.specs.Asked.{askedOf, namedBy, namedIf, dumpFrom, ifRight};
-use packet::field_rules;
+ghost use Rattle.tasks.specs.Asked.{askedOf, ifPassed, pickedBy, soughtIn, namedBy, namedIf, dumpFrom, ifRight};
+use packet::checked;
+use packet::code;
+use packet::dump_rules;
+use packet::end_is_zero;
+use packet::function_code;
+use packet::headed;
+use packet::lengths;
+use packet::load_rules;
 use packet::name_fits;
-use packet::zero_rules;
+use packet::pad_is_zero;
+use packet::pool_rules;
+use packet::request_in;
+use packet::symbol_request_in;
 use rules::Address;
-use rules::Command;
 use rules::Range;
 use rules::Refusal;
 use rules::Request;
-use rules::SymbolRequest;
 use rules::Task;
+use rules::Verdict;
 use symbols::Known;
 use symbols::Symbol;
 use symbols::symbol_of;
+use wire::byte_at;
+use wire::get16;
 use wire::put_words;
 
 // A command's task, or why it has none.
@@ -119,38 +132,6 @@ fn dump_from(moved: u64, size: u16) -> Sought
     }))
 }
 
-fn value_asked(symbols: &[u8], known: Known, p: &[u8], n: u8) -> Sought
-    requires { ⌜ KnownOf known (now symbols) ⌝ }
-    ensures { λ r. ⌜ r ≡ askedOf (now (symbols .entry)) (now (p .entry)) (SymbolValue n) ⌝ }
-{
-    let named = resolved(
-        symbols,
-        known,
-        p,
-        name_fits(n) & zero_rules(p, Command::SymbolValue(n)),
-    );
-    match named {
-        Named::Unnamed(r) => Sought::Denied(r),
-        Named::Value(v) => Sought::Asked(Task::TellValue(v)),
-    }
-}
-
-fn dump_asked(symbols: &[u8], known: Known, p: &[u8], q: SymbolRequest) -> Sought
-    requires { ⌜ KnownOf known (now symbols) ⌝ }
-    ensures { λ r. ⌜ r ≡ askedOf (now (symbols .entry)) (now (p .entry)) (DumpSymbol q) ⌝ }
-{
-    let named = resolved(
-        symbols,
-        known,
-        p,
-        name_fits(q.name) & zero_rules(p, Command::DumpSymbol(q)),
-    );
-    match named {
-        Named::Unnamed(r) => Sought::Denied(r),
-        Named::Value(v) => dump_from(moved_up(v, q.offset), q.size),
-    }
-}
-
 fn if_right(right: bool, task: Task) -> Sought
     ensures { λ r. ⌜ r ≡ ifRight right task ⌝ }
 {
@@ -161,18 +142,109 @@ fn if_right(right: bool, task: Task) -> Sought
     }
 }
 
-// The task of a command whose packet passed numbers 4 to 8; else 17, 9 or 18. `known` is what is known of the symbol table.
-pub fn asked(symbols: &[u8], known: Known, p: &[u8], k: Command) -> Sought
-    requires { ⌜ KnownOf known (now symbols) ⌝ }
-    ensures { λ r. ⌜ r ≡ askedOf (now (symbols .entry)) (now (p .entry)) k ⌝ }
+// THE HANDLERS: a packet's task, or the number that it gets. `fit` is what numbers 7 and 8 say of it.
+
+fn dump(p: &[u8], fit: Verdict) -> Sought
+    ensures { λ r. ⌜ ((symbols : List ℕ) → r ≡ ifPassed fit (askedOf symbols (now (p .entry)) (Dump (requestOf (now (p .entry)))))) ⌝ }
 {
-    match k {
-        Command::Dump(q) => if_right(field_rules(k), Task::DumpRange(range_of(q))),
-        Command::Cancel => Sought::Asked(Task::CancelDump),
-        Command::Load(q) => if_right(field_rules(k), Task::LoadRange(range_of(q))),
-        Command::PoolStatistics(i) => if_right(field_rules(k), Task::CountPool(i)),
-        Command::SymbolValue(n) => value_asked(symbols, known, p, n),
-        Command::DumpSymbol(q) => dump_asked(symbols, known, p, q),
+    if let Verdict::Rejected(r) = fit {
+        return Sought::Denied(r);
+    }
+    let q = request_in(p);
+    if_right(
+        dump_rules(q.size, q.address.0),
+        Task::DumpRange(range_of(q)),
+    )
+}
+
+fn cancel(fit: Verdict) -> Sought
+    ensures { λ r. ⌜ ((symbols p : List ℕ) → r ≡ ifPassed fit (askedOf symbols p Cancel)) ⌝ }
+{
+    if let Verdict::Rejected(r) = fit {
+        return Sought::Denied(r);
+    }
+    Sought::Asked(Task::CancelDump)
+}
+
+fn load(p: &[u8], fit: Verdict) -> Sought
+    ensures { λ r. ⌜ ((symbols : List ℕ) → r ≡ ifPassed fit (askedOf symbols (now (p .entry)) (Load (requestOf (now (p .entry)))))) ⌝ }
+{
+    if let Verdict::Rejected(r) = fit {
+        return Sought::Denied(r);
+    }
+    let q = request_in(p);
+    if_right(
+        load_rules(q.size, q.address.0),
+        Task::LoadRange(range_of(q)),
+    )
+}
+
+fn pool_statistics(p: &[u8], fit: Verdict) -> Sought
+    ensures { λ r. ⌜ ((symbols : List ℕ) → r ≡ ifPassed fit (askedOf symbols (now (p .entry)) (PoolStatistics (beAt 2 (now (p .entry)) 10)))) ⌝ }
+{
+    if let Verdict::Rejected(r) = fit {
+        return Sought::Denied(r);
+    }
+    let i = get16(p, 10);
+    if_right(pool_rules(i), Task::CountPool(i))
+}
+
+fn symbol_value(p: &[u8], fit: Verdict, symbols: &[u8], known: Known) -> Sought
+    requires { ⌜ KnownOf known (now symbols) ⌝ }
+    ensures { λ r. ⌜ r ≡ ifPassed fit (askedOf (now (symbols .entry)) (now (p .entry)) (SymbolValue (nameSizeOf (now (p .entry))))) ⌝ }
+{
+    if let Verdict::Rejected(r) = fit {
+        return Sought::Denied(r);
+    }
+    let right = name_fits(byte_at(p, 10)) & pad_is_zero(p);
+    let named = resolved(symbols, known, p, right);
+    match named {
+        Named::Unnamed(r) => Sought::Denied(r),
+        Named::Value(v) => Sought::Asked(Task::TellValue(v)),
+    }
+}
+
+fn named_dump(p: &[u8], fit: Verdict, symbols: &[u8], known: Known) -> Sought
+    requires { ⌜ KnownOf known (now symbols) ⌝ }
+    ensures { λ r. ⌜ r ≡ ifPassed fit (askedOf (now (symbols .entry)) (now (p .entry)) (DumpSymbol (symbolRequestOf (now (p .entry))))) ⌝ }
+{
+    if let Verdict::Rejected(r) = fit {
+        return Sought::Denied(r);
+    }
+    let q = symbol_request_in(p);
+    let right = name_fits(q.name) & (pad_is_zero(p) & end_is_zero(p));
+    let named = resolved(symbols, known, p, right);
+    match named {
+        Named::Unnamed(r) => Sought::Denied(r),
+        Named::Value(v) => dump_from(moved_up(v, q.offset), q.size),
+    }
+}
+
+// THE MATCH: the function code picks the command, its packet's length and its handler.
+fn by_code(p: &[u8], unit: u8, symbols: &[u8], known: Known) -> Sought
+    requires { ⌜ KnownOf known (now symbols) ⌝ }
+    ensures { λ r. ⌜ r ≡ pickedBy (now (p .entry)) unit (now (symbols .entry)) (decode (now (p .entry))) ⌝ }
+{
+    match function_code(p) {
+        code::DUMP => dump(p, checked(p, unit, lengths::DUMP)),
+        code::CANCEL => cancel(checked(p, unit, lengths::CANCEL)),
+        code::LOAD => load(p, checked(p, unit, lengths::LOAD)),
+        code::POOL => pool_statistics(p, checked(p, unit, lengths::POOL)),
+        code::VALUE => symbol_value(p, checked(p, unit, lengths::VALUE), symbols, known),
+        code::NAMED_DUMP => named_dump(p, checked(p, unit, lengths::NAMED_DUMP), symbols, known),
+        _ => Sought::Denied(Refusal::UnknownCode),
+    }
+}
+
+// Numbers 4 to 9, 17 and 18 of a packet for this unit, or its task. `known` is what is known of the symbol table.
+pub fn asked(p: &[u8], unit: u8, symbols: &[u8], known: Known) -> Sought
+    requires { ⌜ KnownOf known (now symbols) ⌝ }
+    ensures { λ r. ⌜ r ≡ soughtIn (now (p .entry)) unit (now (symbols .entry)) ⌝ }
+{
+    let head = headed(p);
+    match head {
+        Verdict::Rejected(r) => Sought::Denied(r),
+        Verdict::Accepted => by_code(p, unit, symbols, known),
     }
 }
 

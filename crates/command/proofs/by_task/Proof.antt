@@ -40,6 +40,9 @@ enum-known-k-2 c = search needs
 find-requires-2 : tie.Need-find-requires-2
 find-requires-2 c κs = search needs
 
+index-requires : tie.Need-index-requires
+index-requires c κs = search needs
+
 load-requires : tie.Need-load-requires
 load-requires c κs = search needs
 
@@ -51,6 +54,9 @@ pool-at-requires c κs = search needs
 
 find-requires-3 : tie.Need-find-requires-3
 find-requires-3 c κs = search needs
+
+index-requires-2 : tie.Need-index-requires-2
+index-requires-2 c κs = search needs
 
 pool-statistics-requires : tie.Need-pool-statistics-requires
 pool-statistics-requires c κs = search needs
@@ -72,10 +78,16 @@ unfolding firstWithin firstWith
 returns-3 c = λ good. rw (c .before .before .enum-told2 .given .1) (c .cancel .ensures ∙ rw (c .before .first-with2 .ensures))
 
 returns-4 : tie.Need-returns-4
-returns-4 c = λ good. rw (c .before .before .before .k2 .given .1) (c .load .ensures ∙ rw (c .before .find2 .ensures good))
+returns-4 c = λ good.
+    let found = c .before .before in
+    rw (found .before .before .k2 .given .1) (c .load .ensures ∙ rw (c .before .index .ensures, found .find2 .ensures good))
 
 returns-5 : tie.Need-returns-5
-returns-5 c = λ good. rw (c .before .before .before .before .before .k3 .given .1) (c .pool-statistics .ensures ∙ rw (c .before .find3 .ensures good, c .before .before .pool-at .ensures))
+returns-5 c = λ good.
+    let found = c .before .before in
+    let pool = found .before in
+    rw (pool .before .before .before .k3 .given .1)
+    (c .pool-statistics .ensures ∙ rw (c .before .index2 .ensures, found .find3 .ensures good, pool .pool-at .ensures))
 
 returns-6 : tie.Need-returns-6
 returns-6 c = λ good. rw (c .before .k4 .given .1)
@@ -95,10 +107,12 @@ by-task-spec =
     cancel-requires
     enum-known-k-2
     find-requires-2
+    index-requires
     load-requires
     enum-known-k-3
     pool-at-requires
     find-requires-3
+    index-requires-2
     pool-statistics-requires
     enum-known-k-4
     returns

@@ -31,8 +31,8 @@ returns-3 c = rw (c .enum-told2 .given .1)
 
 returns-4 : tie.Need-returns-4
 returns-4 c =
-    let at-found = c .before .before .before .before .before in
-    let right = not-false (at-found .found .given .0 .0 .load) (c .before .before .if1 .left) in
+    let at-found = c .before .before .before .before in
+    let right = not-false (at-found .found .given .0 .0 .load) (c .before .if1 .left) in
     rw (at-found .found .given .1, right)
 
 pub load-spec : {M : Type 1} → statement M

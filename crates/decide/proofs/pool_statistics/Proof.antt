@@ -15,8 +15,8 @@ enum-told c = search needs
 enum-told-2 : tie.Need-enum-told-2
 enum-told-2 c = search needs
 
-enum-known-found : tie.Need-enum-known-found
-enum-known-found c = search needs
+enum-told-3 : tie.Need-enum-told-3
+enum-told-3 c = search needs
 
 cast-words-at : tie.Need-cast-words-at
 cast-words-at c = search needs
@@ -27,8 +27,8 @@ words-at-requires c κs = search needs
 walk-pool-requires : tie.Need-walk-pool-requires
 walk-pool-requires c κs = search needs
 
-enum-told-3 : tie.Need-enum-told-3
-enum-told-3 c = search needs
+enum-told-4 : tie.Need-enum-told-4
+enum-told-4 c = search needs
 
 enum-known-walked : tie.Need-enum-known-walked
 enum-known-walked c = search needs
@@ -40,10 +40,17 @@ returns-3 : tie.Need-returns-3
 returns-3 c = rw (ne-eqb _ _ (c .before .before .if1 .left), c .enum-told2 .given .1)
 
 returns-4 : tie.Need-returns-4
-returns-4 c = rw (ne-eqb _ _ (c .before .before .before .before .before .before .before .before .before .if1 .left), c .before .before .before .before .before .before .before .found .given .1, ← words-cut _ _ _ (c .before .before .before .words-at .ensures), ← c .before .before .walk-pool .ensures, c .enum-told3 .given .1)
+returns-4 c =
+    let words = c .before .before .before in
+    let found = words .before .before in
+    rw (ne-eqb _ _ (found .before .before .if1 .left), found .enum-told3 .given .1, ← words-cut _ _ _ (words .words-at .ensures), ← c .before .before .walk-pool .ensures, c .enum-told4 .given .1)
 
 returns-5 : tie.Need-returns-5
-returns-5 c = rw (ne-eqb _ _ (c .before .before .before .before .before .before .before .before .before .before .if1 .left), c .before .before .before .before .before .before .before .before .found .given .1, ← words-cut _ _ _ (c .before .before .before .before .words-at .ensures), ← c .before .before .before .walk-pool .ensures, c .before .walked .given .1)
+returns-5 c =
+    let walked = c .before .before .before in
+    let words = walked .before in
+    let found = words .before .before in
+    rw (ne-eqb _ _ (found .before .before .if1 .left), found .enum-told3 .given .1, ← words-cut _ _ _ (words .words-at .ensures), ← walked .walk-pool .ensures, c .before .walked .given .1)
 
 pub pool-statistics-spec : {M : Type 1} → statement M
 pool-statistics-spec =
@@ -52,11 +59,11 @@ pool-statistics-spec =
     returns
     enum-told
     enum-told-2
-    enum-known-found
+    enum-told-3
     cast-words-at
     words-at-requires
     walk-pool-requires
-    enum-told-3
+    enum-told-4
     enum-known-walked
     returns-2
     returns-3

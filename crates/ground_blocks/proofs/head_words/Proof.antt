@@ -5,14 +5,14 @@ use borrow.Author.Needs.{needs}
 use Rattle.ground_blocks.proofs.head_words.Statement.{statement}
 use Rattle.ground_blocks.proofs.head_words.Tie as tie
 
-code-word-requires : tie.Need-code-word-requires
-code-word-requires c κs = search needs
+code-of-requires : tie.Need-code-of-requires
+code-of-requires c κs = search needs
+
+cast-code : tie.Need-cast-code
+cast-code c = search needs
 
 body-words-requires : tie.Need-body-words-requires
 body-words-requires c κs = search needs
-
-cast-t6 : tie.Need-cast-t6
-cast-t6 c = search needs
 
 cast-t7 : tie.Need-cast-t7
 cast-t7 c = search needs
@@ -20,28 +20,32 @@ cast-t7 c = search needs
 cast-t8 : tie.Need-cast-t8
 cast-t8 c = search needs
 
-array-read-t11 : tie.Need-array-read-t11
-array-read-t11 c = search needs
+cast-t9 : tie.Need-cast-t9
+cast-t9 c = search needs
 
-array-read-t14 : tie.Need-array-read-t14
-array-read-t14 c = search needs
+array-read-t12 : tie.Need-array-read-t12
+array-read-t12 c = search needs
 
-array-read-t17 : tie.Need-array-read-t17
-array-read-t17 c = search needs
+array-read-t15 : tie.Need-array-read-t15
+array-read-t15 c = search needs
+
+array-read-t18 : tie.Need-array-read-t18
+array-read-t18 c = search needs
 
 returns : tie.Need-returns
-returns c = head-is (c .before .before .before .before .before .args .f) _ (c .before .before .before .before .code-word .ensures) _ (c .before .before .before .body-words .ensures)
+returns c = head-is (c .before .before .before .before .before .args .f) _ (c .before .before .before .before .code-of .ensures) _ (c .before .before .before .body-words .ensures)
 
 pub head-words-spec : {M : Type 1} → statement M
 head-words-spec =
     tie.close
     (tie.spec
-    code-word-requires
+    code-of-requires
+    cast-code
     body-words-requires
-    cast-t6
     cast-t7
     cast-t8
-    array-read-t11
-    array-read-t14
-    array-read-t17
+    cast-t9
+    array-read-t12
+    array-read-t15
+    array-read-t18
     returns)

@@ -42,8 +42,8 @@ shared-slice-read-bytes-from-2 c = let l = inside (c .before .before) in search 
 bytes-from-requires : tie.Need-bytes-from-requires Inv-loop μ-loop
 bytes-from-requires c κs = search needs
 
-byte-at-requires : tie.Need-byte-at-requires Inv-loop μ-loop
-byte-at-requires c κs = search needs
+function-code-requires : tie.Need-function-code-requires Inv-loop μ-loop
+function-code-requires c κs = search needs
 
 returns : tie.Need-returns Inv-loop μ-loop
 returns c = search needs
@@ -72,7 +72,7 @@ names-symbol-spec =
     mul-bytes-from-2
     shared-slice-read-bytes-from-2
     bytes-from-requires
-    byte-at-requires
+    function-code-requires
     returns
     add-i
     loop-less

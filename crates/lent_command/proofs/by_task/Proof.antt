@@ -50,6 +50,9 @@ enum-known-k-2 c = search needs
 find-requires-2 : tie.Need-find-requires-2
 find-requires-2 c κs = search needs
 
+index-requires : tie.Need-index-requires
+index-requires c κs = search needs
+
 load-requires : tie.Need-load-requires
 load-requires c κs = search needs
 
@@ -77,17 +80,20 @@ range-in-requires c κs = search needs
 word-at-requires : tie.Need-word-at-requires
 word-at-requires c κs = search needs
 
-cast-t32 : tie.Need-cast-t32
-cast-t32 c = search needs
+cast-t33 : tie.Need-cast-t33
+cast-t33 c = search needs
 
 word-at-requires-2 : tie.Need-word-at-requires-2
 word-at-requires-2 c κs = search needs
 
-cast-t35 : tie.Need-cast-t35
-cast-t35 c = search needs
+cast-t36 : tie.Need-cast-t36
+cast-t36 c = search needs
 
 find-requires-3 : tie.Need-find-requires-3
 find-requires-3 c κs = search needs
+
+index-requires-2 : tie.Need-index-requires-2
+index-requires-2 c κs = search needs
 
 pool-statistics-requires : tie.Need-pool-statistics-requires
 pool-statistics-requires c κs = search needs
@@ -98,14 +104,14 @@ enum-known-k-4 c = search needs
 word-at-requires-3 : tie.Need-word-at-requires-3
 word-at-requires-3 c κs = search needs
 
-cast-t39 : tie.Need-cast-t39
-cast-t39 c = search needs
+cast-t40 : tie.Need-cast-t40
+cast-t40 c = search needs
 
 word-at-requires-4 : tie.Need-word-at-requires-4
 word-at-requires-4 c κs = search needs
 
-cast-t42 : tie.Need-cast-t42
-cast-t42 c = search needs
+cast-t43 : tie.Need-cast-t43
+cast-t43 c = search needs
 
 returns : tie.Need-returns
 returns c = rw (c .enum-told .given .1)
@@ -113,21 +119,27 @@ returns c = rw (c .enum-told .given .1)
 returns-2 : tie.Need-returns-2
 returns-2 c =
     let s = c .before .before .before .before .before .before .before .before .before .before in
-    rw (c .before .before .before .before .before .k .given .1, ← c .before .before .before .find .ensures, ← with-in (s .args .b .now) (s .args .o .transaction) (c .before .before .first-with .ensures), ← idle-in (s .args .b .now) (c .before .first-idle .ensures))
+    rw (c .before .before .before .before .before .k .given .1, ← c .before .before .before .find .ensures, ← with-in (s .args .b .now) (s .args .t) (c .before .before .first-with .ensures), ← idle-in (s .args .b .now) (c .before .first-idle .ensures))
     (c .dump .ensures)
 
 returns-3 : tie.Need-returns-3
 returns-3 c =
     let s = c .before .before .before .before .before .before .before in
-    rw (c .before .before .enum-told2 .given .1, ← with-in (s .args .b .now) (s .args .o .transaction) (c .before .first-with2 .ensures)) (c .cancel .ensures)
+    rw (c .before .before .enum-told2 .given .1, ← with-in (s .args .b .now) (s .args .t) (c .before .first-with2 .ensures)) (c .cancel .ensures)
 
 returns-4 : tie.Need-returns-4
-returns-4 c = rw (c .before .before .before .k2 .given .1, ← c .before .find2 .ensures) (c .load .ensures)
+returns-4 c =
+    let found = c .before .before in
+    rw (found .before .before .k2 .given .1, ← found .find2 .ensures, ← c .before .index .ensures) (c .load .ensures)
 
 returns-5 : tie.Need-returns-5
 returns-5 c =
-    rw (c .before .before .before .before .before .before .before .k3 .given .1)
-    (pool-decided _ (state-is _ (c .before .before .before .before .before .before .before .before .before .before .before .before .pre)) _ _ _ (c .before .before .before .before .range-in .ensures) (c .before .find3 .ensures) (c .before .before .before .word-at .ensures) (c .before .before .word-at2 .ensures) (c .pool-statistics .ensures))
+    let found = c .before .before in
+    let unit = found .before in
+    let range = unit .before .before in
+    let known = range .before .before .before in
+    rw (known .k3 .given .1)
+    (pool-decided _ (state-is _ (known .before .before .before .before .before .pre)) _ _ _ (range .range-in .ensures) (found .find3 .ensures) (c .before .index2 .ensures) (unit .before .word-at .ensures) (unit .word-at2 .ensures) (c .pool-statistics .ensures))
 
 returns-6 : tie.Need-returns-6
 returns-6 c =
@@ -152,6 +164,7 @@ by-task-spec =
     cancel-requires
     enum-known-k-2
     find-requires-2
+    index-requires
     load-requires
     enum-known-k-3
     sub-range-in
@@ -161,16 +174,17 @@ by-task-spec =
     mul-range-in
     range-in-requires
     word-at-requires
-    cast-t32
+    cast-t33
     word-at-requires-2
-    cast-t35
+    cast-t36
     find-requires-3
+    index-requires-2
     pool-statistics-requires
     enum-known-k-4
     word-at-requires-3
-    cast-t39
+    cast-t40
     word-at-requires-4
-    cast-t42
+    cast-t43
     returns
     returns-2
     returns-3

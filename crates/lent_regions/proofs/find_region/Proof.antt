@@ -70,27 +70,6 @@ returns-3 c =
     in-table (a .rs .now) (a .n) (a .a) (else .if1 .left)
     (found-past (a .rs .now) _ low _ (a .a) k (rw (e .before .entries .ensures) at (e .if2 .left)) short)
 
-words-below-requires : tie.Need-words-below-requires
-words-below-requires c κs = search needs
-
-mul-words-before : tie.Need-mul-words-before
-mul-words-before c = search needs
-
-mul-words-before-2 : tie.Need-mul-words-before-2
-mul-words-before-2 c = search needs
-
-shared-slice-read-words-before : tie.Need-shared-slice-read-words-before
-shared-slice-read-words-before c = search needs
-
-words-before-requires : tie.Need-words-before-requires
-words-before-requires c κs = search needs
-
-cast-before : tie.Need-cast-before
-cast-before c = search needs
-
-add-at : tie.Need-add-at
-add-at c = search needs
-
 mul-rights : tie.Need-mul-rights
 mul-rights c = search needs
 
@@ -103,12 +82,12 @@ mul-rights-2 c = search needs
 shared-slice-read-rights : tie.Need-shared-slice-read-rights
 shared-slice-read-rights c = search needs
 
-cast-t26 : tie.Need-cast-t26
-cast-t26 c = search needs
+cast-t21 : tie.Need-cast-t21
+cast-t21 c = search needs
 
 returns-4 : tie.Need-returns-4
 returns-4 c =
-    let q = c .before .before .before .before in
+    let q = c .before in
     let e = q .before .before .before .before .before in
     let r = e .before .before in
     let else = r .before .before in
@@ -117,8 +96,7 @@ returns-4 c =
     let low : r .region-of .result .region < 16 = let m = e .before .entries .ensures in let l = e .if2 .left in omega arith in
     let whole = rw (q .before .before .end-of .ensures, q .before .end-of2 .ensures) at (q .if3 .left) in
     in-table (a .rs .now) (a .n) (a .a) (else .if1 .left)
-    (found-here (a .rs .now) _ low _ (a .a) k (rw (e .before .entries .ensures) at (e .if2 .left)) whole _ _ _
-    (c .before .before .before .words-below .ensures .0) (c .before .words-before .ensures) refl)
+    (found-here (a .rs .now) _ low _ (a .a) k (rw (e .before .entries .ensures) at (e .if2 .left)) whole _ refl)
 
 pub find-region-spec : {M : Type 1} → statement M
 find-region-spec =
@@ -139,16 +117,9 @@ find-region-spec =
     end-of-requires
     end-of-requires-2
     returns-3
-    words-below-requires
-    mul-words-before
-    mul-words-before-2
-    shared-slice-read-words-before
-    words-before-requires
-    cast-before
-    add-at
     mul-rights
     add-rights
     mul-rights-2
     shared-slice-read-rights
-    cast-t26
+    cast-t21
     returns-4)

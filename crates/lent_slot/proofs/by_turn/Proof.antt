@@ -32,32 +32,20 @@ nothing-to-send-requires c κs = search needs
 enum-known-turn : tie.Need-enum-known-turn
 enum-known-turn c = search needs
 
-sub-find-region : tie.Need-sub-find-region
-sub-find-region c = search needs
+find-requires : tie.Need-find-requires
+find-requires c κs = search needs
 
-part-find-region-start : tie.Need-part-find-region-start
-part-find-region-start c = search needs
-
-part-find-region-end : tie.Need-part-find-region-end
-part-find-region-end c = let n = block-words _ (c .before .before .before .before .before .before .before .before .pre) in omega arith
+index-requires : tie.Need-index-requires
+index-requires c κs = search needs
 
 word-at-requires-2 : tie.Need-word-at-requires-2
 word-at-requires-2 c κs = search needs
 
-cast-find-region : tie.Need-cast-find-region
-cast-find-region c = search needs
-
-find-region-requires : tie.Need-find-region-requires
-find-region-requires c κs = search needs
-
-word-at-requires-3 : tie.Need-word-at-requires-3
-word-at-requires-3 c κs = search needs
-
 cast-count : tie.Need-cast-count
 cast-count c = search needs
 
-word-at-requires-4 : tie.Need-word-at-requires-4
-word-at-requires-4 c κs = search needs
+word-at-requires-3 : tie.Need-word-at-requires-3
+word-at-requires-3 c κs = search needs
 
 cast-unit : tie.Need-cast-unit
 cast-unit c = search needs
@@ -73,10 +61,14 @@ returns c =
 
 returns-2 : tie.Need-returns-2
 returns-2 c =
-    let s = c .before .before .before .before .before .before .before .before .before .before .before .before .before .before in
-    let t = turn-in _ (block-is _ (s .pre)) _ (c .before .before .before .before .before .before .before .before .before .before .before .word-at .ensures) (c .before .before .before .before .before .before .before .before .before .before .next-turn .ensures) in
-    rw (← t, c .before .before .before .before .before .before .before .before .turn .given .1)
-    (sent-on _ (block-is _ (s .pre)) (state-is _ (s .pre)) _ _ (c .before .before .before .before .word-at2 .ensures) (c .before .before .word-at3 .ensures) (c .before .word-at4 .ensures) (c .before .before .before .find-region .ensures .0) (c .send .ensures))
+    let index = c .before .before .before in
+    let found = index .before in
+    let turn = found .before .before .before in
+    let next = turn .before .before in
+    let s = next .before .before .before .before in
+    let t = turn-in _ (block-is _ (s .pre)) _ (next .before .word-at .ensures) (next .next-turn .ensures) in
+    rw (← t, turn .turn .given .1)
+    (sent-on _ (block-is _ (s .pre)) (state-is _ (s .pre)) _ _ (c .before .before .word-at2 .ensures) (c .before .word-at3 .ensures) (found .find .ensures) (index .index .ensures) (c .send .ensures))
 
 pub by-turn-spec : {M : Type 1} → statement M
 by-turn-spec =
@@ -90,15 +82,11 @@ by-turn-spec =
     enum-told
     nothing-to-send-requires
     enum-known-turn
-    sub-find-region
-    part-find-region-start
-    part-find-region-end
+    find-requires
+    index-requires
     word-at-requires-2
-    cast-find-region
-    find-region-requires
-    word-at-requires-3
     cast-count
-    word-at-requires-4
+    word-at-requires-3
     cast-unit
     send-requires
     returns

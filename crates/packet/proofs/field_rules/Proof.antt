@@ -8,14 +8,23 @@ use Rattle.packet.proofs.field_rules.Tie as tie
 enum-known-k : tie.Need-enum-known-k
 enum-known-k c = search needs
 
+dump-rules-requires : tie.Need-dump-rules-requires
+dump-rules-requires c κs = search needs
+
 enum-told : tie.Need-enum-told
 enum-told c = search needs
 
 enum-known-k-2 : tie.Need-enum-known-k-2
 enum-known-k-2 c = search needs
 
+load-rules-requires : tie.Need-load-rules-requires
+load-rules-requires c κs = search needs
+
 enum-known-k-3 : tie.Need-enum-known-k-3
 enum-known-k-3 c = search needs
+
+pool-rules-requires : tie.Need-pool-rules-requires
+pool-rules-requires c κs = search needs
 
 enum-known-k-4 : tie.Need-enum-known-k-4
 enum-known-k-4 c = search needs
@@ -31,7 +40,7 @@ name-fits-requires-2 c κs = search needs
 
 returns : tie.Need-returns
 unfolding fieldRules
-returns c = rw (c .before .before .before .k .given .1)
+returns c = rw (c .before .before .k .given .1) (c .dump-rules .ensures)
 
 returns-2 : tie.Need-returns-2
 unfolding fieldRules
@@ -39,11 +48,11 @@ returns-2 c = rw (c .enum-told .given .1)
 
 returns-3 : tie.Need-returns-3
 unfolding fieldRules
-returns-3 c = rw (c .before .before .before .before .k2 .given .1)
+returns-3 c = rw (c .before .before .k2 .given .1) (c .load-rules .ensures)
 
 returns-4 : tie.Need-returns-4
 unfolding fieldRules
-returns-4 c = rw (c .before .k3 .given .1)
+returns-4 c = rw (c .before .before .k3 .given .1) (c .pool-rules .ensures)
 
 returns-5 : tie.Need-returns-5
 unfolding fieldRules
@@ -58,9 +67,12 @@ field-rules-spec =
     tie.close
     (tie.spec
     enum-known-k
+    dump-rules-requires
     enum-told
     enum-known-k-2
+    load-rules-requires
     enum-known-k-3
+    pool-rules-requires
     enum-known-k-4
     name-fits-requires
     enum-known-k-5

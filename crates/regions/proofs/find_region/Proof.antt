@@ -45,30 +45,17 @@ returns-2 c =
     let f = found-short (a .t1) _ (a .a) _ k (rw (e .before .entries .ensures) at (e .if1 .left)) short in
     (f, found-exactly (a .t1) (a .n) (a .a) f)
 
-words-below-requires : tie.Need-words-below-requires
-words-below-requires c κs = search needs
-
-words-before-requires : tie.Need-words-before-requires
-words-before-requires c κs = search needs
-
-cast-before : tie.Need-cast-before
-cast-before c = search needs
-
-add-at : tie.Need-add-at
-add-at c = search needs
-
-cast-t22 : tie.Need-cast-t22
-cast-t22 c = search needs
+cast-t17 : tie.Need-cast-t17
+cast-t17 c = search needs
 
 returns-3 : tie.Need-returns-3
 returns-3 c =
-    let q = c .before .before in
-    let e = q .before .before .before .before in
+    let e = c .before .before .before .before in
     let r = e .before .before in
     let a = r .before .before .args in
     let k = rw (r .before .first-word .ensures) at (r .region-of .ensures .0) in
-    let whole = rw (q .before .before .end-of .ensures, q .before .end-of2 .ensures) at (q .if2 .left) in
-    let f = found-at (a .t1) _ (a .a) _ k (rw (e .before .entries .ensures) at (e .if1 .left)) whole _ _ (c .before .words-below .ensures .0) (c .words-before .ensures) in
+    let whole = rw (c .before .before .end-of .ensures, c .before .end-of2 .ensures) at (c .if2 .left) in
+    let f = found-at (a .t1) _ (a .a) _ k (rw (e .before .entries .ensures) at (e .if1 .left)) whole in
     (f, found-exactly (a .t1) (a .n) (a .a) f)
 
 pub find-region-spec : {M : Type 1} → statement M
@@ -84,9 +71,5 @@ find-region-spec =
     end-of-requires
     end-of-requires-2
     returns-2
-    words-below-requires
-    words-before-requires
-    cast-before
-    add-at
-    cast-t22
+    cast-t17
     returns-3)

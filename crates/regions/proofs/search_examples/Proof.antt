@@ -16,6 +16,7 @@ returns c =
       past = refl;
       outside = refl;
       found = refl;
+      index = refl;
       runs-out = refl;
       starts-outside = refl;
       with-region-0 = refl;

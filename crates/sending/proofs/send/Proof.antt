@@ -16,8 +16,8 @@ enum-told-2 c = search needs
 nothing-to-send-requires-2 : tie.Need-nothing-to-send-requires-2
 nothing-to-send-requires-2 c κs = search needs
 
-enum-known-found : tie.Need-enum-known-found
-enum-known-found c = search needs
+enum-told-3 : tie.Need-enum-told-3
+enum-told-3 c = search needs
 
 address-after-requires : tie.Need-address-after-requires
 address-after-requires c κs = search needs
@@ -41,7 +41,7 @@ returns-2 : tie.Need-returns-2
 returns-2 c = rw (c .before .enum-told2 .given .1) (c .nothing-to-send2 .ensures)
 
 returns-3 : tie.Need-returns-3
-returns-3 c = rw (c .before .before .before .before .before .before .before .before .found .given .1, ← c .before .before .before .before .address-after .ensures, ← c .before .before .before .packet-words .ensures, ← c .before .word-after .ensures, ← c .after-packet .ensures)
+returns-3 c = rw (c .before .before .before .before .before .before .enum-told3 .given .1, ← c .before .before .before .before .address-after .ensures, ← c .before .before .before .packet-words .ensures, ← c .before .word-after .ensures, ← c .after-packet .ensures)
 
 pub send-spec : {M : Type 1} → statement M
 send-spec =
@@ -51,7 +51,7 @@ send-spec =
     nothing-to-send-requires
     enum-told-2
     nothing-to-send-requires-2
-    enum-known-found
+    enum-told-3
     address-after-requires
     packet-words-requires
     cast-word-after

@@ -1,6 +1,5 @@
 -- `slot::by_turn` meets its contract.
 -- Assumes nothing.
-use Rattle.opening.proofs.Lent.{found-good}
 use borrow.Author.Needs.{needs}
 use Rattle.slot.proofs.by_turn.Statement.{statement}
 use Rattle.slot.proofs.by_turn.Tie as tie
@@ -17,8 +16,11 @@ nothing-to-send-requires c κs = search needs
 enum-known-turn : tie.Need-enum-known-turn
 enum-known-turn c = search needs
 
-find-region-requires : tie.Need-find-region-requires
-find-region-requires c κs = search needs
+find-requires : tie.Need-find-requires
+find-requires c κs = search needs
+
+index-requires : tie.Need-index-requires
+index-requires c κs = search needs
 
 send-requires : tie.Need-send-requires
 send-requires c κs = search needs
@@ -28,9 +30,9 @@ returns c = λ good. rw (← c .before .before .before .next-turn .ensures, c .b
 
 returns-2 : tie.Need-returns-2
 returns-2 c = λ good.
-    let found = found-good _ _ (c .before .find-region .ensures .0) good in
-    rw (← c .before .before .before .before .before .before .before .next-turn .ensures, c .before .before .before .before .before .turn .given .1, ← found)
-    (c .send .ensures)
+    let at-found = c .before .before in
+    let turn = at-found .before .before .before in
+    rw (← turn .before .before .next-turn .ensures, turn .turn .given .1, ← at-found .find .ensures good, ← c .before .index .ensures) (c .send .ensures)
 
 pub by-turn-spec : {M : Type 1} → statement M
 by-turn-spec =
@@ -40,7 +42,8 @@ by-turn-spec =
     enum-told
     nothing-to-send-requires
     enum-known-turn
-    find-region-requires
+    find-requires
+    index-requires
     send-requires
     returns
     returns-2)
