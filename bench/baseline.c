@@ -111,7 +111,7 @@ static inline uint32_t good(const uint32_t *s, struct places *in)
 {
     const uint32_t *regions = s + REGIONS, count = s[0];
     uint32_t rights = 0, sum;
-    for (int i = 0; i < 16; i++) /* unused entries too: a block with other rights is no state */
+    for (uint32_t i = 0; i < 16 && i < count; i++) /* of the entries in use: a block with other rights is no state */
         rights |= regions[3 * i + 2];
     if (rights > 3 || s[UNIT] > 15 || s[LAST] > 3 || (s[COUNT_785] | s[COUNT_786] | s[COUNT_788]) > 16383 || (s[ACCEPTED] | s[REFUSED]) > 65535)
         return 0;
@@ -272,12 +272,14 @@ uint32_t CALL(start_up)(const uint32_t *restrict table, size_t table_words, uint
     const uint32_t *regions;
     uint32_t rights = 0;
     int pool_in[2];
-    if (table_words != TABLE_WORDS || state_words != STATE_WORDS)
+    if (state_words != STATE_WORDS)
         return 17;
-    regions = table + 6;
     memset(state, 0, 4 * STATE_WORDS);
     state[LAST] = 3;
-    for (int i = 0; i < 16; i++)
+    if (table_words != TABLE_WORDS)
+        return 17;
+    regions = table + 6;
+    for (uint32_t i = 0; i < 16 && i < table[1]; i++)
         rights |= regions[3 * i + 2];
     if (rights > 3 || table[0] > 15 || !table_sum(regions, table[1]) || !pools_good(table + 2, regions, table[1], pool_in))
         return 17;

@@ -51,12 +51,19 @@ static void start(void)
         FIRST, 2000, 2, SECOND, 48, 3,         /* the first region may be dumped, the second loaded and dumped */
     };
     printf("-- start-up\n");
-    expect("table of another length", lg_start_up(table, 53, state, LG_STATE_WORDS), 17);
     table[8] = 4;
     expect("rights out of bounds", lg_start_up(table, LG_TABLE_WORDS, state, LG_STATE_WORDS), 17);
     expect("regions then", state[0], 0);
     table[8] = 2;
     expect("start-up", lg_start_up(table, LG_TABLE_WORDS, state, LG_STATE_WORDS), 0);
+    expect("state of another length", lg_start_up(table, LG_TABLE_WORDS, state, LG_STATE_WORDS - 1), 17);
+    expect("regions as before", state[0], 2);
+    expect("table of another length", lg_start_up(table, 53, state, LG_STATE_WORDS), 17);
+    expect("regions then", state[0], 0);
+    table[53] = 4; /* the rights of an entry that is not in use */
+    expect("start-up again", lg_start_up(table, LG_TABLE_WORDS, state, LG_STATE_WORDS), 0);
+    expect("zeros in an entry that is not in use", state[48], 0);
+    state[48] = 4;
     expect("regions", state[0], 2);
     expect("unit", state[53], UNIT);
     expect("last place served", state[74], 3);

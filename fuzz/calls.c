@@ -94,6 +94,11 @@ static void start(void)
     uint32_t number = lg_start_up(table.now, table.bytes / 4, state.now, state.bytes / 4);
     must(number == 0 || number == 17);
     must(same(table));
+    if (state.bytes != 4 * LG_STATE_WORDS)
+        must(number == 17 && same(state));
+    else if (number == 17) /* the state of zero regions: zeros, but for the last place served */
+        for (size_t i = 0; i < LG_STATE_WORDS; i++)
+            must(((uint32_t *)state.now)[i] == (i == 74 ? 3 : 0));
     give_back(table);
 }
 

@@ -1,6 +1,7 @@
 -- A batch is the single calls made in order, for every single call that leaves its reply buffer as long as it was.
 -- Assumes nothing.
 use mathlib.Core.Path.{_≡_, refl, sym, ap, _∙_}
+use mathlib.Core.Logic.{_↔_}
 use mathlib.Core.Bool.{true, false}
 use mathlib.Core.List.{List, [], _∷_, _++_, append-assoc, append-nil}
 use Prim.Native.Nat.{ℕ, zero, suc, _+_, _*_, _-_, _≤_, _<_}
@@ -8,7 +9,9 @@ use native.Mathlib.Omega.{arith}
 use lib.ListN.{length, getD, take, drop, length-append, length-drop, take-append-drop, replicate}
 use lib.Seq.{length-take-le, take-all, take-suc, take-append-le, drop-append-le, take-at, drop-at, drop-drop, slice-empty, take-add}
 use Rattle.lists.specs.Splice.{splice}
+use Rattle.lists.proofs.Tests.{either, contra}
 use Rattle.rules.specs.Commands.{CommandArgs}
+use Rattle.rules.specs.Results.{verdictNumber}
 use Rattle.rules.specs.declared.Refusal.the-variants.{BufferLength}
 use Rattle.rules.specs.declared.Verdict.the-variants.{Accepted, Rejected}
 use Rattle.batches.specs.Batch.{BatchArgs, lends, Single, itemsOf, bytesFrom, packetOf, unfit, Left, leftBy, withItem, Batch, batch}
@@ -217,9 +220,32 @@ module _ {S : Type 0} (call : S → CommandArgs → Single S) where
     unfolding batch leftBy
     nothing-done s a records h = rw h
 
+    -- the number of the whole call, by the test
+    number-fit : (s : S) (a : BatchArgs) (records : ℕ) → unfit a records ≡ false → verdictNumber (batch call s a records .verdict) ≡ 0
+    unfolding batch
+    number-fit s a records h = rw h
+
+    number-unfit : (s : S) (a : BatchArgs) (records : ℕ) → unfit a records ≡ true → verdictNumber (batch call s a records .verdict) ≡ 3
+    unfolding batch
+    number-unfit s a records h = rw h
+
+    when-taken : (s : S) (a : BatchArgs) (records : ℕ) → (verdictNumber (batch call s a records .verdict) ≡ 0) ↔ Fits a records
+    when-taken s a records =
+        either (unfit a records)
+        (λ u. let e = number-unfit s a records u in (λ z. absurd (omega arith), λ f. absurd (contra u (fits-in a records f))))
+        (λ u. (λ z. fits-out a records u, λ f. number-fit s a records u))
+
+    when-not-taken : (s : S) (a : BatchArgs) (records : ℕ) → (verdictNumber (batch call s a records .verdict) ≡ 3) ↔ (Fits a records → ⊥)
+    when-not-taken s a records =
+        either (unfit a records)
+        (λ u. (λ z f. contra u (fits-in a records f), λ n. number-unfit s a records u))
+        (λ u. let e = number-fit s a records u in (λ z f. absurd (omega arith), λ n. absurd (n (fits-out a records u))))
+
     pub in-order : InOrder call
     in-order =
         record {
+          taken = when-taken;
+          not-taken = when-not-taken;
           equals = λ s a records h. in-order-of s a records (fits-out a records h);
           refused = nothing-done;
           none = λ s bytes symbols image replies records.

@@ -9,3 +9,4 @@ pub mod Records
 pub mod Items
 pub mod Turns
 pub mod Whole
+pub mod AnItem

@@ -6,7 +6,7 @@ use mathlib.Core.List.{List, [], _∷_, _++_}
 use Prim.Native.Nat.{ℕ, _+_, _*_, _-_, _≤_, _<_}
 use lib.ListN.{length, getD, take, drop, replicate}
 use Rattle.rules.specs.Commands.{CommandArgs, commandCall}
-use Rattle.rules.specs.Results.{answerNumber, answerLength}
+use Rattle.rules.specs.Results.{verdictNumber, answerNumber, answerLength}
 use Rattle.rules.specs.States.{goodState}
 use Rattle.rules.specs.declared.Refusal.the-variants.{BufferLength}
 use Rattle.rules.specs.declared.State.{State}
@@ -79,9 +79,20 @@ leftOf s a ms =
       answers = recordsOf ms;
     }
 
+-- WHEN A BATCH IS TAKEN, in plain words
+
+pub record Fits (a : BatchArgs) (records : ℕ) : Type 0 where
+  pub few : length (a .starts) ≤ 64
+  pub equal : length (a .lengths) ≡ length (a .starts)
+  pub room : length (a .starts) ≤ records
+  pub bytes : 32 * length (a .starts) ≤ length (a .replies)
+
 -- THE PROMISES, of a batch of such single calls
 
 pub record InOrder {S : Type 0} (call : S → CommandArgs → Single S) : Type 0 where
+  -- the number of the whole call: 0 exactly where the lists and buffers fit, and else 3
+  pub taken : (s : S) (a : BatchArgs) (records : ℕ) → (verdictNumber (batch call s a records .verdict) ≡ 0) ↔ Fits a records
+  pub not-taken : (s : S) (a : BatchArgs) (records : ℕ) → (verdictNumber (batch call s a records .verdict) ≡ 3) ↔ (Fits a records → ⊥)
   -- 0: the single calls in order
   pub equals : (s : S) (a : BatchArgs) (records : ℕ) → unfit a records ≡ false
       → batch call s a records ≡ record { verdict = Accepted; left = leftOf s a (made call (a .symbols) s (a .image) (items a)) }
@@ -127,12 +138,6 @@ pub record InOrder {S : Type 0} (call : S → CommandArgs → Single S) : Type 0
       }
 
 -- WHAT ITEMS AND REFUSALS ARE, in plain words
-
-pub record Fits (a : BatchArgs) (records : ℕ) : Type 0 where
-  pub few : length (a .starts) ≤ 64
-  pub equal : length (a .lengths) ≡ length (a .starts)
-  pub room : length (a .starts) ≤ records
-  pub bytes : 32 * length (a .starts) ≤ length (a .replies)
 
 pub record InPlain : Type 0 where
   -- 3 exactly where the lists and buffers do not fit

@@ -4,6 +4,7 @@ ghost use mathlib.Core.Bool.{cond};
 ghost use Prim.Native.Nat.{min};
 ghost use Rattle.rules.specs.declared.Refusal.the-variants.{BufferLength};
 ghost use Rattle.rules.specs.declared.Verdict.the-variants.{Accepted, Rejected};
+ghost use Rattle.batches.specs.AnItem.{AnItem};
 ghost use Rattle.batches.specs.Batch.{bytesFrom, unfitBy};
 ghost use Rattle.batches.specs.Examples.{BatchExamples};
 ghost use Rattle.batches.specs.InOrder.{Promises};
@@ -64,4 +65,9 @@ pub fn demand_3_with_batches()
 // Batches on literal bytes and words.
 pub fn batch_examples()
     ensures { λ r. ⌜ BatchExamples ⌝ }
+{}
+
+// A packet anywhere in the buffer, of any length, is the packet of its single call.
+pub fn item_is_its_bytes()
+    ensures { λ r. ⌜ AnItem ⌝ }
 {}

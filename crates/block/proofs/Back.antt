@@ -2,8 +2,8 @@
 -- Assumes nothing.
 use mathlib.Core.Path.{_≡_, refl, ap, _∙_}
 use mathlib.Core.Bool.{Bool, true, false}
-use mathlib.Core.List.{List, [], _∷_}
-use Prim.Native.Nat.{ℕ, _+_, _*_, _%_, _<_}
+use mathlib.Core.List.{List, [], _∷_, _++_}
+use Prim.Native.Nat.{ℕ, _+_, _*_, _%_, _≤_, _<_, min}
 use native.Mathlib.Omega.{arith}
 use lib.Dec.{leb, eqb}
 use lib.ListN.{length}
@@ -17,7 +17,7 @@ use Rattle.rules.specs.declared.Context.the-variants.{Idle, Busy}
 use Rattle.rules.specs.declared.Range.{Range}
 use Rattle.rules.specs.declared.Region.{Region}
 use Rattle.rules.specs.declared.State.{State}
-use Rattle.block.specs.Blocks.{rightsWord, regionWords, contextWords, blockOf, word, regionIn, contextIn, placeIn, regionsIn, poolsIn, placesIn, stateOf, regionsBounds, placeBounds, isBlock}
+use Rattle.block.specs.Blocks.{rightsWord, regionWords, contextWords, poolsWords, blockOf, word, regionIn, contextIn, placeIn, regionsIn, poolsIn, placesIn, stateOf, regionsBounds, placeBounds, isBlock}
 use Rattle.block.specs.RoundTrip.{ContextFits, Fits}
 use Rattle.block.proofs.Runs.{list-is}
 use Rattle.block.proofs.Lengths.{block-length}
@@ -37,7 +37,7 @@ dump-back true false = refl
 dump-back false true = refl
 dump-back false false = refl
 
-rights-low : (l d : Bool) → leb (rightsWord l d) 3 ≡ true
+pub rights-low : (l d : Bool) → leb (rightsWord l d) 3 ≡ true
 rights-low true true = refl
 rights-low true false = refl
 rights-low false true = refl
@@ -49,7 +49,7 @@ module _ (b : List ℕ) (at : ℕ) where
   first : {x : ℕ} → word b (at + 0) ≡ x → word b at ≡ x
   first e = let z : at ≡ at + 0 = omega arith in ap (word b) z ∙ e
 
-  region-back : (r : Region) → ((k : ℕ) → k < 3 → word b (at + k) ≡ word (regionWords r) k) → regionIn b at ≡ r
+  pub region-back : (r : Region) → ((k : ℕ) → k < 3 → word b (at + k) ≡ word (regionWords r) k) → regionIn b at ≡ r
   region-back r h =
       let rights = h 2 (omega arith) in
       rw (first (h 0 (omega arith)), h 1 (omega arith), rights, load-back (r .load) (r .dump), dump-back (r .load) (r .dump))
@@ -76,6 +76,84 @@ pools-back (p ∷ []) h = absurd (omega arith)
 pools-back (p ∷ q ∷ []) h = refl
 pools-back (p ∷ q ∷ r ∷ ps) h = absurd (omega arith)
 
+-- a block says a state: its number of regions and its regions are the state's, and all that comes after them is as in the state's block
+pub record Says (b : List ℕ) (s : State) : Type 0 where
+  pub words : length b ≡ 80
+  pub count : word b 0 ≡ s .count
+  pub regions : regionsIn b 1 ≡ s .regions
+  pub rights : regionsBounds b 1 (word b 0) ≡ true
+  pub rest : (k : ℕ) → 49 ≤ k → word b k ≡ word (blockOf s) k
+
+module _ (s : State) (f : Fits s) (b : List ℕ) (w : Says b s) where
+  pool-is : (k : ℕ) → k < 5 → word b (49 + k) ≡ word (poolsWords (s .pools) ++ (s .unit ∷ [])) k
+  pool-is k l = w .rest (49 + k) (omega arith) ∙ pool-word s k l
+
+  place-is : (i k : ℕ) → i < 4 → k < 5 → word b (54 + 5 * i + k) ≡ word (contextWords (contextAt (s .places) i)) k
+  place-is i k l m = w .rest (54 + 5 * i + k) (omega arith) ∙ place-word s i k l m
+
+  tail-is : (k : ℕ) → word b (74 + k) ≡ word (s .last ∷ s .replies ∷ s .packets ∷ s .accepted ∷ s .refused ∷ s .values ∷ []) k
+  tail-is k = w .rest (74 + k) (omega arith) ∙ tail-word s k
+
+  places-same : placesIn b 54 ≡ s .places
+  places-same =
+      let n = f .places in
+      list-is idlePlace (λ i. placeIn b (54 + 5 * i)) (s .places) 4 (omega arith)
+      (λ i l. rw (context-back b (54 + 5 * i) (contextAt (s .places) i) (λ k m. place-is i k l m)))
+      ∙ take-all 4 (s .places) (omega arith)
+
+  pools-same : poolsIn b 49 ≡ s .pools
+  pools-same =
+      rw (pool-is 0 (omega arith), pool-is 1 (omega arith), pool-is 2 (omega arith), pool-is 3 (omega arith))
+      (pools-back (s .pools) (f .pools))
+
+  pub said-back : stateOf b ≡ s
+  unfolding stateOf
+  said-back =
+      rw (
+        w .regions,
+        w .count,
+        pools-same,
+        pool-is 4 (omega arith),
+        places-same,
+        tail-is 0,
+        tail-is 1,
+        tail-is 2,
+        tail-is 3,
+        tail-is 4,
+        tail-is 5,
+      )
+
+  place-bounds : (i : ℕ) → i < 4 → placeBounds b (54 + 5 * i) ≡ true
+  place-bounds i l = context-bounds b (54 + 5 * i) (contextAt (s .places) i) (f .contexts i) (λ k m. place-is i k l m)
+
+  pub said-block : isBlock b ≡ true
+  unfolding isBlock
+  said-block =
+      rw (
+        eq-eqb (length b) 80 (w .words),
+        w .rights,
+        pool-is 4 (omega arith),
+        le-leb (s .unit) 255 (omega arith),
+        place-bounds 0 (omega arith),
+        place-bounds 1 (omega arith),
+        place-bounds 2 (omega arith),
+        place-bounds 3 (omega arith),
+        tail-is 0,
+        tail-is 1,
+        tail-is 2,
+        tail-is 3,
+        tail-is 4,
+        tail-is 5,
+        le-leb (s .last) 255 (omega arith),
+        le-leb (s .replies) 65535 (omega arith),
+        le-leb (s .packets) 65535 (omega arith),
+        le-leb (s .accepted) 65535 (omega arith),
+        le-leb (s .refused) 65535 (omega arith),
+        le-leb (s .values) 65535 (omega arith),
+      )
+
+-- THE STATE'S OWN BLOCK
+
 module _ (s : State) (f : Fits s) where
   regions-same : regionsIn (blockOf s) 1 ≡ s .regions
   regions-same =
@@ -84,70 +162,21 @@ module _ (s : State) (f : Fits s) where
       (λ i l. region-back (blockOf s) (1 + 3 * i) (regionAt (s .regions) i) (λ k m. region-word s i k l m))
       ∙ take-all 16 (s .regions) (omega arith)
 
-  places-same : placesIn (blockOf s) 54 ≡ s .places
-  places-same =
-      let n = f .places in
-      list-is idlePlace (λ i. placeIn (blockOf s) (54 + 5 * i)) (s .places) 4 (omega arith)
-      (λ i l. rw (context-back (blockOf s) (54 + 5 * i) (contextAt (s .places) i) (λ k m. place-word s i k l m)))
-      ∙ take-all 4 (s .places) (omega arith)
-
-  count-same : word (blockOf s) 0 ≡ s .count
+  pub count-same : word (blockOf s) 0 ≡ s .count
   count-same = let n = f .count in let e = count-word s in omega arith
 
-  pools-same : poolsIn (blockOf s) 49 ≡ s .pools
-  pools-same =
-      rw (pool-word s 0 (omega arith), pool-word s 1 (omega arith), pool-word s 2 (omega arith), pool-word s 3 (omega arith))
-      (pools-back (s .pools) (f .pools))
+  rights-bounds : (n : ℕ) → regionsBounds (blockOf s) 1 n ≡ true
+  unfolding regionsBounds
+  rights-bounds n =
+      all-of (λ i. leb (word (blockOf s) (1 + 3 * i + 2)) 3) (min n 16)
+      (λ i l. rw (region-word s i 2 (omega arith) (omega arith)) (rights-low (regionAt (s .regions) i .load) (regionAt (s .regions) i .dump)))
+
+  own-block : Says (blockOf s) s
+  own-block =
+      record { words = block-length s; count = count-same; regions = regions-same; rights = rights-bounds (word (blockOf s) 0); rest = λ k l. refl }
 
   pub state-back : stateOf (blockOf s) ≡ s
-  unfolding stateOf
-  state-back =
-      rw (
-        regions-same,
-        count-same,
-        pools-same,
-        pool-word s 4 (omega arith),
-        places-same,
-        tail-word s 0,
-        tail-word s 1,
-        tail-word s 2,
-        tail-word s 3,
-        tail-word s 4,
-        tail-word s 5,
-      )
-
-  rights-bounds : regionsBounds (blockOf s) 1 ≡ true
-  unfolding regionsBounds
-  rights-bounds =
-      all-of (λ i. leb (word (blockOf s) (1 + 3 * i + 2)) 3) 16
-      (λ i l. rw (region-word s i 2 l (omega arith)) (rights-low (regionAt (s .regions) i .load) (regionAt (s .regions) i .dump)))
-
-  place-bounds : (i : ℕ) → i < 4 → placeBounds (blockOf s) (54 + 5 * i) ≡ true
-  place-bounds i l =
-      context-bounds (blockOf s) (54 + 5 * i) (contextAt (s .places) i) (f .contexts i) (λ k m. place-word s i k l m)
+  state-back = said-back s f (blockOf s) own-block
 
   pub block-good : isBlock (blockOf s) ≡ true
-  unfolding isBlock
-  block-good =
-      rw (
-        eq-eqb (length (blockOf s)) 80 (block-length s),
-        rights-bounds,
-        pool-word s 4 (omega arith),
-        le-leb (s .unit) 255 (omega arith),
-        place-bounds 0 (omega arith),
-        place-bounds 1 (omega arith),
-        place-bounds 2 (omega arith),
-        place-bounds 3 (omega arith),
-        tail-word s 0,
-        tail-word s 1,
-        tail-word s 2,
-        tail-word s 3,
-        tail-word s 4,
-        tail-word s 5,
-        le-leb (s .last) 255 (omega arith),
-        le-leb (s .replies) 65535 (omega arith),
-        le-leb (s .packets) 65535 (omega arith),
-        le-leb (s .accepted) 65535 (omega arith),
-        le-leb (s .refused) 65535 (omega arith),
-        le-leb (s .values) 65535 (omega arith),
-      )
+  block-good = said-block s f (blockOf s) own-block

@@ -53,7 +53,7 @@ counts-out b h =
 
 pub record BlockBounds (b : List ℕ) : Type 0 where
   pub words : length b ≡ 80
-  pub regions : regionsBounds b 1 ≡ true
+  pub regions : regionsBounds b 1 (word b 0) ≡ true
   pub unit : word b 53 ≤ 255
   pub places : placesBounds b ≡ true
   pub counts : CountsBounds b
@@ -63,8 +63,8 @@ unfolding isBlock
 block-out b h =
     let n = eqb (length b) 80 in
     let u = leb (word b 53) 255 in
-    let rest = regionsBounds b 1 && u && placesBounds b && countsBounds b in
-    let f = four-out (regionsBounds b 1) u (placesBounds b) (countsBounds b) (and-right n rest h) in
+    let rest = regionsBounds b 1 (word b 0) && u && placesBounds b && countsBounds b in
+    let f = four-out (regionsBounds b 1 (word b 0)) u (placesBounds b) (countsBounds b) (and-right n rest h) in
     record {
       words = eqb-true (length b) 80 (and-left n rest h);
       regions = f .first;

@@ -1,8 +1,8 @@
 -- What a part of a block says: the regions, pools and places that the block has there.
 -- Assumes nothing.
-use mathlib.Core.Path.{_≡_, ap, _∙_}
+use mathlib.Core.Path.{_≡_, refl, sym, ap, _∙_}
 use mathlib.Core.List.{List, [], _∷_}
-use Prim.Native.Nat.{ℕ, _+_, _*_, _<_}
+use Prim.Native.Nat.{ℕ, _+_, _*_, _<_, min}
 use native.Mathlib.Omega.{arith}
 use lib.Dec.{leb}
 use lib.ListN.{take, drop}
@@ -52,20 +52,39 @@ module _ (b : List ℕ) (from size : ℕ) where
         word-part (k + 4) (j + 4) l (omega arith),
       )
 
+  pub sixteen-part : (k j : ℕ) → k + 47 < size → from + k ≡ j → regionsIn part k ≡ regionsIn b j
+  sixteen-part k j l e =
+      runs-same (λ i. regionIn b (j + 3 * i) ∷ []) (λ i. regionIn part (k + 3 * i) ∷ []) 16
+      (λ i q. ap (λ (r : Region). r ∷ []) (region-part (k + 3 * i) (j + 3 * i) (omega arith) (omega arith)))
+
+  pub used-part : (k j : ℕ) → k + 47 < size → from + k ≡ j → (n : ℕ) → regionsBounds part k n ≡ regionsBounds b j n
+  unfolding regionsBounds
+  used-part k j l e n =
+      all-same _ (λ i. leb (word b (j + 3 * i + 2)) 3) (min n 16)
+      (λ i q. ap (λ (x : ℕ). leb x 3) (word-part (k + 3 * i + 2) (j + 3 * i + 2) (omega arith) (omega arith)))
+
 -- the 48 words of sixteen regions, and the 20 words of four places
 module _ (b : List ℕ) (from : ℕ) where
   pub regions-part : regionsIn (take 48 (drop from b)) 0 ≡ regionsIn b from
-  regions-part =
-      runs-same (λ i. regionIn b (from + 3 * i) ∷ []) (λ i. regionIn (take 48 (drop from b)) (0 + 3 * i) ∷ []) 16
-      (λ i l. ap (λ (r : Region). r ∷ []) (region-part b from 48 (0 + 3 * i) (from + 3 * i) (omega arith) (omega arith)))
+  regions-part = sixteen-part b from 48 0 from (omega arith) (omega arith)
 
-  pub rights-part : regionsBounds (take 48 (drop from b)) 0 ≡ regionsBounds b from
-  unfolding regionsBounds
-  rights-part =
-      all-same _ (λ i. leb (word b (from + 3 * i + 2)) 3) 16
-      (λ i l. ap (λ (x : ℕ). leb x 3) (word-part b from 48 (0 + 3 * i + 2) (from + 3 * i + 2) (omega arith) (omega arith)))
+  pub rights-part : (n : ℕ) → regionsBounds (take 48 (drop from b)) 0 n ≡ regionsBounds b from n
+  rights-part = used-part b from 48 0 from (omega arith) (omega arith)
 
   pub places-part : placesIn (take 20 (drop from b)) 0 ≡ placesIn b from
   places-part =
       runs-same (λ i. placeIn b (from + 5 * i) ∷ []) (λ i. placeIn (take 20 (drop from b)) (0 + 5 * i) ∷ []) 4
       (λ i l. ap (λ (p : Place). p ∷ []) (place-part b from 20 (0 + 5 * i) (from + 5 * i) (omega arith) (omega arith)))
+
+-- two blocks with the same first 49 words: the number of regions, and sixteen regions
+module _ (a b : List ℕ) (e : take 49 a ≡ take 49 b) where
+  pub count-front : word a 0 ≡ word b 0
+  count-front = sym (word-part a 0 49 0 0 (omega arith) refl) ∙ ap (λ (u : List ℕ). word u 0) e ∙ word-part b 0 49 0 0 (omega arith) refl
+
+  pub regions-front : regionsIn a 1 ≡ regionsIn b 1
+  regions-front =
+      sym (sixteen-part a 0 49 1 1 (omega arith) refl) ∙ ap (λ (u : List ℕ). regionsIn u 1) e ∙ sixteen-part b 0 49 1 1 (omega arith) refl
+
+  pub rights-front : (n : ℕ) → regionsBounds a 1 n ≡ regionsBounds b 1 n
+  rights-front n =
+      sym (used-part a 0 49 1 1 (omega arith) refl n) ∙ ap (λ (u : List ℕ). regionsBounds u 1 n) e ∙ used-part b 0 49 1 1 (omega arith) refl n

@@ -8,7 +8,7 @@ use native.Mathlib.Nat.{mul-suc, mul-zero, mul-le-mul-left, eq-or-lt-of-le}
 use native.Mathlib.Numerals.{add-one}
 use native.Mathlib.Omega.{arith}
 use lib.ListN.{length, getD, set, take, drop, replicate, length-append, length-take, length-drop, List·getD-append}
-use lib.Seq.{drop-length, set-at, append-snoc, getD-append-add, getD-take, getD-drop, take-suc, take-add, ext-getD}
+use lib.Seq.{drop-length, set-at, append-snoc, getD-append-add, getD-take, getD-drop, take-all, take-append-le, take-suc, take-add, ext-getD}
 use Rattle.lists.specs.Splice.{splice}
 use Rattle.block.specs.Runs.{runs}
 
@@ -26,6 +26,25 @@ pub runs-same : {A : Type 0} (f g : ℕ → List A) (n : ℕ) → ((j : ℕ) →
 unfolding runs
 runs-same f g zero h = refl
 runs-same f g (suc n) h = rw (runs-same f g n (λ j l. h j (omega arith)), h n (omega arith))
+
+-- the first m of n lists
+pub runs-take : {A : Type 0} (f : ℕ → List A) (w : ℕ) → ((i : ℕ) → length (f i) ≡ w) → (n m : ℕ) → m ≤ n → take (w * m) (runs f n) ≡ runs f m
+unfolding runs
+runs-take f w h zero m l = let e : m ≡ 0 = omega arith in rw (e, mul-zero w)
+runs-take f w h (suc n) m l =
+    ⊎-elim
+    (λ (e : m ≡ suc n). rw e (all (runs-length f w h (suc n))))
+    (λ (q : m < suc n). fewer (mul-le-mul-left w (below q)) (runs-take f w h n m (below q)))
+    (eq-or-lt-of-le l)
+  where
+    below : m < suc n → m ≤ n
+    below q = omega arith
+
+    all : length (runs f n ++ f n) ≡ w * suc n → take (w * suc n) (runs f n ++ f n) ≡ runs f n ++ f n
+    all k = take-all (w * suc n) (runs f n ++ f n) (omega arith)
+
+    fewer : w * m ≤ w * n → take (w * m) (runs f n) ≡ runs f m → take (w * m) (runs f n ++ f n) ≡ runs f m
+    fewer a r = let k = runs-length f w h n in take-append-le (w * m) (runs f n) (f n) (omega arith) ∙ r
 
 -- AN ARRAY FILLED element by element
 

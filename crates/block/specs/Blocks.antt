@@ -3,8 +3,9 @@ use mathlib.Core.Bool.{Bool, _&&_, _||_, cond}
 use mathlib.Core.List.{List, [], _∷_, _++_}
 use Prim.Native.Nat.{ℕ, _+_, _*_, _%_, min}
 use lib.Dec.{leb, eqb}
-use lib.ListN.{length, getD, replicate}
+use lib.ListN.{length, getD, take, drop, replicate}
 use Rattle.lists.specs.Below.{allBelow}
+use Rattle.lists.specs.Splice.{splice}
 use Rattle.rules.specs.Regions.{startOf, regionAt}
 use Rattle.rules.specs.States.{poolAt, idlePlace}
 use Rattle.rules.specs.declared.Context.{Context}
@@ -101,9 +102,9 @@ stateOf b =
 
 -- BOUNDS
 
--- the rights of sixteen regions from index `at` on
-unfoldable pub regionsBounds : List ℕ → ℕ → Bool
-regionsBounds b at = allBelow (λ i. leb (word b (at + 3 * i + 2)) 3) 16
+-- the rights of the n regions in use, of the sixteen from index `at` on; an entry not in use may hold anything
+unfoldable pub regionsBounds : List ℕ → ℕ → ℕ → Bool
+regionsBounds b at n = allBelow (λ i. leb (word b (at + 3 * i + 2)) 3) (min n 16)
 
 -- five zeros, or busy with a transaction number of 16 bits
 unfoldable pub placeBounds : List ℕ → ℕ → Bool
@@ -120,7 +121,17 @@ countsBounds b =
 
 -- a block that is a state: of 80 words, each in its bounds
 unfoldable pub isBlock : List ℕ → Bool
-isBlock b = eqb (length b) stateWords && (regionsBounds b 1 && leb (word b 53) 255 && placesBounds b && countsBounds b)
+isBlock b = eqb (length b) stateWords && (regionsBounds b 1 (word b 0) && leb (word b 53) 255 && placesBounds b && countsBounds b)
+
+-- WRITTEN OVER
+
+-- the index of the first word of an entry not in use
+abbrev pub unusedFrom : List ℕ → ℕ
+unusedFrom b = 1 + 3 * min (word b 0) 16
+
+-- the block of a state, with the words of entries not in use as this block has them
+unfoldable pub blockOver : List ℕ → State → List ℕ
+blockOver b s = splice (blockOf s) (unusedFrom b) (drop (unusedFrom b) (take 49 b))
 
 -- THE TABLE BLOCK
 
@@ -129,4 +140,4 @@ tableWords = 54
 
 -- 54 words, each in its bounds
 unfoldable pub isTable : List ℕ → Bool
-isTable b = eqb (length b) tableWords && (leb (word b 0) 255 && regionsBounds b 6)
+isTable b = eqb (length b) tableWords && (leb (word b 0) 255 && regionsBounds b 6 (word b 1))

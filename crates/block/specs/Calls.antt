@@ -13,7 +13,7 @@ use Rattle.rules.specs.declared.Range.{Range}
 use Rattle.rules.specs.declared.Region.{Region}
 use Rattle.rules.specs.declared.Started.{Started}
 use Rattle.rules.specs.declared.State.{State}
-use Rattle.block.specs.Blocks.{stateWords, blockOf, isBlock, stateOf, tableWords, word, regionsIn, poolsIn, isTable}
+use Rattle.block.specs.Blocks.{stateWords, blockOf, isBlock, stateOf, blockOver, word, regionsIn, poolsIn, isTable}
 
 -- START-UP
 
@@ -41,10 +41,10 @@ startLeft r = record { number = verdictNumber (r .verdict); state = blockOf (r .
 abbrev pub startFrom : Table → Started
 startFrom t = startUp (t .regions) (t .count) (t .pools) (t .unit)
 
--- a block of another length: 17, and nothing is written
+-- a state block of another length: 17, and nothing is written
 unfoldable pub lgStartUp : List ℕ → List ℕ → StartLeft
 lgStartUp table state =
-    cond (eqb (length table) tableWords && eqb (length state) stateWords) (startLeft (startFrom (tableOf table)))
+    cond (eqb (length state) stateWords) (startLeft (startFrom (tableOf table)))
     (record { number = 17; state = state })
 
 -- CALLS ON A STATE
@@ -60,12 +60,13 @@ pub record CallLeft : Type 0 where
   pub image : List ℕ
   pub buffer : List ℕ
 
-abbrev pub callLeft : Outcome → CallLeft
-callLeft o =
+-- the state's words are written over those of the block: those of entries not in use stay
+abbrev pub callLeft : List ℕ → Outcome → CallLeft
+callLeft b o =
     record {
       number = answerNumber (o .answer);
       bytes = answerLength (o .answer);
-      state = blockOf (o .state);
+      state = blockOver b (o .state);
       image = o .image;
       buffer = o .buffer;
     }
@@ -73,7 +74,7 @@ callLeft o =
 -- a block that is no state: 1, and all stays as it was
 unfoldable pub onState : List ℕ → List ℕ → List ℕ → (State → Outcome) → CallLeft
 onState state image buffer call =
-    cond (isBlock state) (callLeft (call (stateOf state)))
+    cond (isBlock state) (callLeft state (call (stateOf state)))
     (record { number = 1; bytes = 0; state = state; image = image; buffer = buffer })
 
 abbrev pub lgSlot : List ℕ → ℕ → List ℕ → List ℕ → CallLeft

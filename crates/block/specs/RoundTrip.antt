@@ -8,7 +8,7 @@ use Rattle.rules.specs.States.{contextAt}
 use Rattle.rules.specs.declared.Context.{Context}
 use Rattle.rules.specs.declared.Context.the-variants.{Idle, Busy}
 use Rattle.rules.specs.declared.State.{State}
-use Rattle.block.specs.Blocks.{word, blockOf, isBlock, stateOf}
+use Rattle.block.specs.Blocks.{word, blockOf, isBlock, stateOf, blockOver}
 
 abbrev pub ContextFits : Context → Type 0
 ContextFits Idle = Unit
@@ -33,5 +33,8 @@ pub record RoundTrip : Type 0 where
   -- the block of a state is one, and gives the state back
   pub block : (s : State) → Fits s → isBlock (blockOf s) ≡ true
   pub back : (s : State) → Fits s → stateOf (blockOf s) ≡ s
-  -- a block of words of 32 bits that is a state is the block of that state
-  pub forth : (b : List ℕ) → ((i : ℕ) → word b i < 4294967296) → isBlock b ≡ true → blockOf (stateOf b) ≡ b
+  -- a block of words of 32 bits that is a state is the block of that state, but for the words of entries not in use
+  pub forth : (b : List ℕ) → ((i : ℕ) → word b i < 4294967296) → isBlock b ≡ true → blockOver b (stateOf b) ≡ b
+  -- a state with the regions of such a block, written over it, is one, and gives the state back
+  pub over : (b : List ℕ) → ((i : ℕ) → word b i < 4294967296) → isBlock b ≡ true → (s : State) → s .regions ≡ stateOf b .regions
+      → s .count ≡ stateOf b .count → Fits s → (isBlock (blockOver b s) ≡ true) × (stateOf (blockOver b s) ≡ s)

@@ -85,7 +85,7 @@ pub fn put_run(b: &mut [u32], at: usize, v: &[u32])
 
 // WHAT A BLOCK SAYS
 
-// A state's block gives the state back, and a block that is a state is that state's block.
+// A state's block gives the state back, and a block that is a state is that state's block, but for the words of entries not in use.
 pub fn round_trip()
     ensures { λ r. ⌜ RoundTrip ⌝ }
 {}

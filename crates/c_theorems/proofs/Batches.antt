@@ -3,7 +3,8 @@
 use mathlib.Core.Path.{_≡_, refl, ap, _∙_}
 use mathlib.Core.Bool.{true}
 use mathlib.Core.List.{List, [], _∷_, _++_}
-use Prim.Native.Nat.{ℕ, zero, suc, _*_, _<_}
+use Prim.Native.Nat.{ℕ, zero, suc, _*_, _-_, _<_}
+use native.Mathlib.Omega.{arith}
 use lib.ListN.{length}
 use Rattle.lists.specs.Splice.{splice}
 use Rattle.lists.proofs.Tests.{either}
@@ -26,41 +27,47 @@ use Rattle.block.proofs.GoodFits.{good-fits}
 use Rattle.lent_batch.specs.Batches.{onBlock, lgCommands}
 use Rattle.lent_batch.proofs.Kept.{within}
 use Rattle.c_theorems.specs.BatchesFromC.{inBlock, BatchesFromC}
+use Rattle.c_theorems.specs.FromC.{withUnused}
 use Rattle.c_theorems.proofs.FromC.{on-block, other, bad-command}
+use Rattle.c_theorems.proofs.Unused.{command-with}
 
--- a state that has a block, and whose calls from C are its calls
-record Blocked (s : State) : Type 0 where
+-- a state of n regions that has a block, and whose calls from C are its calls
+record Blocked (n : ℕ) (s : State) : Type 0 where
   good : Good s
   regions : length (s .regions) ≡ 16
   pools : length (s .pools) ≡ 2
+  count : s .count ≡ n
 
-stays-blocked : (s : State) (c : CommandArgs) → AreBytes (c .packet) → Blocked s → Blocked (commandCall s c .state)
-stays-blocked s c b h =
+stays-blocked : (n : ℕ) (s : State) (c : CommandArgs) → AreBytes (c .packet) → Blocked n s → Blocked n (commandCall s c .state)
+stays-blocked n s c b h =
     let kept = command-kept s c in
     let before = demand-2 .good-when s .1 (h .good) in
     record {
       good = demand-2 .good-when (commandCall s c .state) .0 (demand-2 .command-good s c b before);
       regions = ap length (kept .regions) ∙ h .regions;
       pools = ap length (kept .pools) ∙ h .pools;
+      count = kept .count ∙ h .count;
     }
 
-abbrev leftIn : Left State → Left (List ℕ)
-leftIn l = record { state = blockOf (l .state); image = l .image; replies = l .replies; answers = l .answers }
+-- WHAT IS LEFT, with this block of the state
 
-abbrev singleIn : Single State → Single (List ℕ)
-singleIn o = record { number = o .number; length = o .length; state = blockOf (o .state); image = o .image; reply = o .reply }
+abbrev leftIn : (State → List ℕ) → Left State → Left (List ℕ)
+leftIn block l = record { state = block (l .state); image = l .image; replies = l .replies; answers = l .answers }
 
-single-on : (s : State) (c : CommandArgs) → Blocked s → onBlock (blockOf s) c ≡ singleIn (batches.onState s c)
-single-on s c h =
-    ap (λ (o : CallLeft). record { number = o .number; length = o .bytes; state = o .state; image = o .image; reply = o .buffer })
-    (on-block s (good-fits s (h .good) (h .regions) (h .pools)) (c .image) (c .reply) (λ s. commandCall s c))
+abbrev singleIn : (State → List ℕ) → Single State → Single (List ℕ)
+singleIn block o = record { number = o .number; length = o .length; state = block (o .state); image = o .image; reply = o .reply }
 
-module _ (s : State) (a : BatchArgs) (bytes : AreBytes (a .bytes)) where
+abbrev asSingle : CallLeft → Single (List ℕ)
+asSingle o = record { number = o .number; length = o .bytes; state = o .state; image = o .image; reply = o .buffer }
+
+module _ (block : State → List ℕ) (n : ℕ)
+    (single-on : (s : State) (c : CommandArgs) → Blocked n s → onBlock (block s) c ≡ singleIn block (batches.onState s c)) (s : State) (a : BatchArgs)
+    (bytes : AreBytes (a .bytes)) where
   record Follows (k : ℕ) : Type 0 where
-    is : leftBy onBlock a (blockOf s) k ≡ leftIn (leftBy batches.onState a s k)
-    blocked : Blocked (leftBy batches.onState a s k .state)
+    is : leftBy onBlock a (block s) k ≡ leftIn block (leftBy batches.onState a s k)
+    blocked : Blocked n (leftBy batches.onState a s k .state)
 
-  follows : Blocked s → (k : ℕ) → Follows k
+  follows : Blocked n s → (k : ℕ) → Follows k
   unfolding leftBy
   follows h zero = record { is = refl; blocked = h }
   follows h (suc k) =
@@ -80,15 +87,27 @@ module _ (s : State) (a : BatchArgs) (bytes : AreBytes (a .bytes)) where
               answers = l .answers ++ (record { number = o .number; length = o .length } ∷ []);
             })
             (single-on (l .state) c (f .blocked));
-        blocked = stays-blocked (l .state) c p (f .blocked);
+        blocked = stays-blocked n (l .state) c p (f .blocked);
       }
 
-  batch-on : Blocked s → (records : ℕ) → lgCommands (blockOf s) a records ≡ inBlock (batch batches.onState s a records)
+  batch-on : Blocked n s → (records : ℕ) → lgCommands (block s) a records ≡ inBlock block (batch batches.onState s a records)
   unfolding batch leftBy
   batch-on h records =
       either (unfit a records)
       (λ e. rw e refl)
       (λ e. rw e (ap (λ (l : Left (List ℕ)). record { verdict = Accepted; left = l }) (follows h (itemsOf a) .is)))
+
+-- the state's own block, and that with other words in the entries not in use
+single-own : (n : ℕ) (s : State) (c : CommandArgs) → Blocked n s → onBlock (blockOf s) c ≡ singleIn blockOf (batches.onState s c)
+single-own n s c h =
+    let k = command-kept s c in
+    ap asSingle (on-block s (good-fits s (h .good) (h .regions) (h .pools)) (c .image) (c .reply) (λ s. commandCall s c) (k .regions) (k .count))
+
+single-with : (v : List ℕ) (n : ℕ) → length v ≡ 48 - 3 * n → (s : State) (c : CommandArgs) → Blocked n s
+    → onBlock (withUnused s v) c ≡ singleIn (λ t. withUnused t v) (batches.onState s c)
+single-with v n l s c h =
+    let m = h .count in
+    ap asSingle (command-with s (good-fits s (h .good) (h .regions) (h .pools)) v (h .good .start .sixteen) (omega arith) c)
 
 -- the reply buffer of a call from C keeps its length
 reply-kept : (b : List ℕ) (c : CommandArgs) → length (onBlock b c .reply) ≡ length (c .reply)
@@ -101,14 +120,16 @@ c-in-order = in-order onBlock reply-kept
 bad-single : (b : List ℕ) → ((i : ℕ) → word b i < 4294967296) → (isBlock b ≡ true → goodState (stateOf b) ≡ true → ⊥) → (c : CommandArgs)
     → onBlock b c ≡ record { number = 1; length = 0; state = b; image = c .image; reply = c .reply }
 bad-single b w h c =
-    ap (λ (o : CallLeft). record { number = o .number; length = o .bytes; state = o .state; image = o .image; reply = o .buffer })
-    (other b (c .image) (c .reply) (λ s. commandCall s c) w (bad-command b c w) h)
+    ap asSingle (other b (c .image) (c .reply) (λ s. commandCall s c) w (bad-command b c w) h)
 
 pub batches-from-c : BatchesFromC
 batches-from-c =
     record {
       in-order = c-in-order;
-      commands = λ s g r p a records bytes. batch-on s a bytes (record { good = g; regions = r; pools = p }) records;
+      commands = λ s g r p a records bytes.
+          batch-on blockOf (s .count) (single-own (s .count)) s a bytes (record { good = g; regions = r; pools = p; count = refl }) records;
+      commands-unused = λ s g r p v l a records bytes.
+          batch-on (λ t. withUnused t v) (s .count) (single-with v (s .count) l) s a bytes (record { good = g; regions = r; pools = p; count = refl }) records;
       one-command = c-in-order .one;
       no-commands = λ b w h. all-refused onBlock b reply-kept (bad-single b w h);
     }

@@ -1,3 +1,5 @@
+pub mod Used
+pub mod Unused
 pub mod Computed
 pub mod Start
 pub mod FromC

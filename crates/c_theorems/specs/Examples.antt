@@ -12,11 +12,11 @@ use Rattle.lent_batch.specs.Batches.{lgCommands}
 use Rattle.capi.specs.Commands.{lgWriteCommand, lgReadCommand, lgReadPacket}
 
 -- unit 2, three regions: at 1000 hex 4 words with load right, at 2000 hex 6 with dump right, at 3000 hex 1,020 with both; pool 0 is the second
--- region, pool 1 three words of the third. The sixteenth entry is not in use, and not zero.
+-- region, pool 1 three words of the third. The sixteenth entry is not in use, and holds rights over 3.
 abbrev pub table : List ℕ
 table =
     2 ∷ 3 ∷ 0x2000 ∷ 6 ∷ 0x3004 ∷ 3 ∷ 0x1000 ∷ 4 ∷ 1 ∷ 0x2000 ∷ 6 ∷ 2 ∷ 0x3000 ∷ 1020 ∷ 3 ∷ replicate 36 0
-    ++ 9 ∷ 9 ∷ 3 ∷ []
+    ++ 9 ∷ 9 ∷ 7 ∷ []
 
 -- sixteen regions, each with words of its own
 abbrev pub sixteen : List ℕ
@@ -94,19 +94,22 @@ pub record Examples : Type 0 where
   pub start : lgStartUp table (replicate 80 5) ≡ record { number = 0; state = box (replicate 20 0) (3 ∷ 0 ∷ 0 ∷ 0 ∷ 0 ∷ 0 ∷ []) }
   pub start-sixteen : lgStartUp (7 ∷ 16 ∷ 0x2000 ∷ 3 ∷ 0xF004 ∷ 15 ∷ sixteen) (replicate 80 5)
       ≡ record { number = 0; state = 16 ∷ sixteen ++ (0x2000 ∷ 3 ∷ 0xF004 ∷ 15 ∷ 7 ∷ []) ++ replicate 20 0 ++ (3 ∷ 0 ∷ 0 ∷ 0 ∷ 0 ∷ 0 ∷ []) }
-  pub start-bounds : map (λ t. lgStartUp t (replicate 80 5)) (set table 8 4 ∷ set table 53 4 ∷ set table 0 256 ∷ set table 0 16 ∷ [])
+  pub start-bounds : map (λ t. lgStartUp t (replicate 80 5)) (set table 8 4 ∷ set table 14 4 ∷ set table 0 256 ∷ set table 0 16 ∷ [])
       ≡ replicate 4 (record { number = 17; state = noRegions })
-  pub start-lengths : map (λ t. lgStartUp t (replicate 80 5)) (drop 1 table ∷ (0 ∷ table) ∷ []) ≡ replicate 2 (record { number = 17; state = replicate 80 5 })
+  pub start-lengths : map (λ t. lgStartUp t (replicate 80 5)) (drop 1 table ∷ (0 ∷ table) ∷ []) ≡ replicate 2 (record { number = 17; state = noRegions })
   pub start-state : lgStartUp table (replicate 81 5) ≡ record { number = 17; state = replicate 81 5 }
   -- A SLOT: the packet, the place freed, last place 1, and the second packet count raised
   pub slot-number : slot running .number ≡ 0
   pub slot-bytes : slot running .bytes ≡ 44
   pub slot-packet : take 44 (slot running .buffer) ≡ dumpBytes
   pub slot-state : slot running .state ≡ box (replicate 20 0) (1 ∷ 5 ∷ 7 ∷ 7 ∷ 8 ∷ 9 ∷ [])
+  -- the same with other words in the sixteenth entry, which is not in use: they stay
+  pub slot-unused : slot (set (set running 46 9) 48 4)
+      ≡ record { number = 0; bytes = 44; state = set (set (slot running .state) 46 9) 48 4; image = image; buffer = slot running .buffer }
   -- blocks that are no state: of another length, and with a word out of its bounds
-  pub no-state : map slot (drop 1 running ∷ (0 ∷ running) ∷ set running 3 4 ∷ set running 48 4 ∷ set running 54 2 ∷ set running 55 1 ∷ set running 73 1 ∷ [])
+  pub no-state : map slot (drop 1 running ∷ (0 ∷ running) ∷ set running 3 4 ∷ set running 9 4 ∷ set running 54 2 ∷ set running 55 1 ∷ set running 73 1 ∷ [])
       ≡ map (λ b. record { number = 1; bytes = 0; state = b; image = image; buffer = replicate 4092 0xEE })
-      (drop 1 running ∷ (0 ∷ running) ∷ set running 3 4 ∷ set running 48 4 ∷ set running 54 2 ∷ set running 55 1 ∷ set running 73 1 ∷ [])
+      (drop 1 running ∷ (0 ∷ running) ∷ set running 3 4 ∷ set running 9 4 ∷ set running 54 2 ∷ set running 55 1 ∷ set running 73 1 ∷ [])
   -- COMMANDS: a dump of the region with load right and a load of the one with dump right, and the other way round
   pub rights : map (λ b. sent b .number) (asked 0 0 0x456 1 0x1000 0 ∷ asked 4 0 0x456 1 0x2000 0 ∷ asked 0 0 0x456 5 0x2004 0 ∷ asked 4 0 0x456 1 0x1004 0 ∷ [])
       ≡ 11 ∷ 11 ∷ 0 ∷ 0 ∷ []

@@ -20,12 +20,12 @@ use Rattle.rules.proofs.Refusals.{demand-1}
 use Rattle.rules.proofs.StaysGood.{command-good}
 use Rattle.batches.proofs.Items.{Within}
 use Rattle.batches.proofs.Kept.{command-kept}
-use Rattle.block.specs.Blocks.{word, regionIn, blockOf, isBlock, stateOf}
+use Rattle.block.specs.Blocks.{word, regionIn, isBlock, stateOf, blockOver}
 use Rattle.block.specs.Calls.{goodWords, onState}
 use Rattle.block.specs.RoundTrip.{Fits}
-use Rattle.block.proofs.Back.{state-back, block-good}
 use Rattle.block.proofs.Forth.{block-forth}
 use Rattle.block.proofs.GoodFits.{good-fits}
+use Rattle.block.proofs.Over.{over-back, over-block}
 use Rattle.block.proofs.Runs.{runs-length}
 use Rattle.lent_batch.specs.Batches.{onBlock}
 
@@ -54,16 +54,16 @@ module _ (b : List ℕ) (c : CommandArgs) where
   bad-call g = rw g
 
   module _ (fits : (i : ℕ) → word b i < 4294967296) (bytes : AreBytes (c .packet)) (block : isBlock b ≡ true) where
-    good-after : goodState (stateOf b) ≡ true → goodWords (blockOf after) ≡ goodWords b
+    good-after : goodState (stateOf b) ≡ true → goodWords (blockOver b after) ≡ goodWords b
     unfolding goodWords
     good-after g =
         let k = command-kept (stateOf b) c in
         let h : goodState after ≡ true = command-good (stateOf b) c bytes g in
         let f : Fits after = good-fits after (good-when after .0 h) (ap length (k .regions) ∙ sixteen) (ap length (k .pools) ∙ two) in
-        rw (block-good after f, state-back after f, h, k .regions, k .count, block, g)
+        rw (over-block b fits block after (k .regions) (k .count) f, over-back b fits block after (k .regions) (k .count) f, h, k .regions, k .count, block, g)
 
-    bad-after : goodState (stateOf b) ≡ false → blockOf after ≡ b
-    bad-after g = ap (λ (o : Outcome). blockOf (o .state)) (bad-call g) ∙ block-forth b fits block
+    bad-after : goodState (stateOf b) ≡ false → blockOver b after ≡ b
+    bad-after g = ap (λ (o : Outcome). blockOver b (o .state)) (bad-call g) ∙ block-forth b fits block
 
   -- the good test says the same of the block after a command
   pub words-kept : ((i : ℕ) → word b i < 4294967296) → AreBytes (c .packet) → goodWords (onBlock b c .state) ≡ goodWords b

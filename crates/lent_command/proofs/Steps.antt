@@ -34,7 +34,7 @@ use Rattle.rules.proofs.Rules.{start-out}
 use Rattle.regions.specs.Lookup.{foundIndex}
 use Rattle.regions.specs.declared.Found.{Found}
 use Rattle.regions.specs.declared.Found.the-variants.{At, StartsOutside, EndsOutside}
-use Rattle.block.specs.Blocks.{word, rangeIn, contextWords, blockOf, isBlock, stateOf}
+use Rattle.block.specs.Blocks.{word, rangeIn, contextWords, isBlock, stateOf, blockOver}
 use Rattle.block.specs.Calls.{goodWords, onState, lgCommand}
 use Rattle.block.proofs.Bounds.{block-out}
 use Rattle.block.proofs.Changes.{laws}
@@ -204,8 +204,8 @@ module _ (b : List ℕ) (fits : (i : ℕ) → word b i < 4294967296) (block : is
   words : length b ≡ 80
   words = block-out b block .words
 
-  -- the words after a decision are those of the state after it
-  block-after : (d : Decision) → Low d → blockAfter b d ≡ blockOf (stateAfter (stateOf b) d)
+  -- the words after a decision are those of the state after it, and of entries not in use those before
+  block-after : (d : Decision) → Low d → blockAfter b d ≡ blockOver b (stateAfter (stateOf b) d)
   unfolding stateOf
   block-after (Refuse r) l =
       either (counted r)
@@ -250,7 +250,7 @@ module _ (b : List ℕ) (fits : (i : ℕ) → word b i < 4294967296) (args : Com
         let c : carriedOut (stateOf b) args d ≡ commandCall (stateOf b) args = ap (carriedOut (stateOf b) args) f ∙ sym (decided (stateOf b) args) in
         rw k (
           h .0 ∙ ap answerNumber s ∙ ap (λ (y : Outcome). answerNumber (y .answer)) c,
-          w ∙ block-after b fits k d l ∙ ap (λ (y : Outcome). blockOf (y .state)) c,
+          w ∙ block-after b fits k d l ∙ ap (λ (y : Outcome). blockOver b (y .state)) c,
           o .0 ∙ ap (λ (y : Outcome). y .image) c,
           o .1 ∙ ap (λ (y : Outcome). y .buffer) c,
           h .1 ∙ ap (λ (y : Answer). answerLength y % 4294967296) s ∙ low-bytes d ∙ ap (λ (y : Outcome). answerLength (y .answer)) c,

@@ -1,16 +1,14 @@
 -- Region i of a table in words against region i of the table: one turn of each loop, the region found, and what the loops end with.
 -- Assumes nothing.
 use mathlib.Core.Path.{_≡_, sym, ap, _∙_}
-use mathlib.Core.Bool.{Bool, true}
+use mathlib.Core.Bool.{true}
 use mathlib.Core.List.{List}
 use Prim.Native.Nat.{ℕ, _+_, _*_, _-_, _/_, _%_, _≤_, _<_, min}
 use native.Mathlib.Omega.{arith}
 use lib.Dec.{leb, eqb}
-use lib.ListN.{length, List·getD-eq-default}
+use lib.ListN.{length}
 use borrow.Author.Tests.{le-leb, lt-leb, lt-ltb, le-ltb}
 use Rattle.lists.specs.Below.{allBelow}
-use Rattle.lists.proofs.Below.{all-at, all-of}
-use Rattle.lists.proofs.Tests.{either, contra, by-lt}
 use Rattle.rules.specs.Regions.{startOf, endOf, tableRules, firstOf, noRegion, regionAt, rangeAt, endBefore, regionRules, wordsBelow}
 use Rattle.rules.specs.declared.Range.{Range}
 use Rattle.rules.specs.declared.Region.{Region}
@@ -67,20 +65,10 @@ module _ (w : List ℕ) (i : ℕ) (l : i < 16) where
       → At (record { region = i; load = eqb (rights % 2) 1; dump = leb 2 rights }) ≡ findByHalving (regionsIn w 0) m a
   found-here m a ei k q rights er = rw (er) (rw region-at at (found-at (regionsIn w 0) m a i ei k (rw end-read q)))
 
--- THE RIGHTS of the entries that are whole in the words: the others are 0
-module _ (w : List ℕ) (m : ℕ) (em : m ≡ min (length w / 3) 16) where
-  abbrev low : ℕ → Bool
-  low k = leb (word w (0 + 3 * k + 2)) 3
-
-  none-past : (k : ℕ) → m ≤ k → k < 16 → low k ≡ true
-  none-past k l q = rw (List·getD-eq-default w 0 {n = 0 + 3 * k + 2} (omega arith))
-
-  pub rights-all : (i : ℕ) → i ≤ m → m ≤ i → allBelow low i ≡ regionsBounds w 0
-  unfolding regionsBounds
-  rights-all i l q =
-      either (allBelow low i)
-      (λ e. e ∙ sym (all-of low 16 (λ k r. by-lt k i (λ s. all-at low i e s) (λ s. none-past k (omega arith) r))))
-      (λ e. e ∙ sym (either (allBelow low 16) (λ t. absurd (contra (all-of low i (λ k r. all-at low 16 t (omega arith))) e)) (λ t. t)))
+-- THE RIGHTS of the entries in use
+pub rights-all : (w : List ℕ) (n m i : ℕ) → m ≡ min n 16 → i ≤ m → m ≤ i → allBelow (λ k. leb (word w (0 + 3 * k + 2)) 3) i ≡ regionsBounds w 0 n
+unfolding regionsBounds
+rights-all w n m i em l q = let e : i ≡ min n 16 = omega arith in rw e
 
 -- FEWER WORDS THAN A TABLE, and the words of one: what is found, and each number exactly in its case
 module _ (w : List ℕ) (n : ℕ) (a : Range) where

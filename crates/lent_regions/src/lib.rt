@@ -21,11 +21,12 @@ use regions::words_before;
 use rules::Range;
 use rules::WordIndex;
 
-// Whether no entry, in use or not, has rights over 3. Words past the end are 0.
-pub fn rights_bounds(rs: &[u32]) -> bool
-    ensures { λ b. ⌜ b ≡ regionsBounds (now (rs .entry)) 0 ⌝ }
+// Whether none of the n entries in use has rights over 3.
+pub fn rights_bounds(rs: &[u32], n: usize) -> bool
+    requires { ⌜ 48 ≤ length (now rs) ⌝ }
+    ensures { λ b. ⌜ b ≡ regionsBounds (now (rs .entry)) 0 n ⌝ }
 {
-    let m = entries(rs.len() / 3);
+    let m = entries(n);
     let mut all = true;
     let mut i: usize = 0;
     while i < m {

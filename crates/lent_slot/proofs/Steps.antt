@@ -3,7 +3,7 @@
 use mathlib.Core.Path.{_≡_, refl, sym, ap, subst⁻¹, _∙_}
 use mathlib.Core.Bool.{true, false}
 use mathlib.Core.List.{List}
-use Prim.Native.Nat.{ℕ, _+_, _*_, _-_, _%_, _≤_, _<_}
+use Prim.Native.Nat.{ℕ, _+_, _*_, _%_, _≤_, _<_}
 use native.Mathlib.Omega.{arith}
 use lib.ListN.{length, set}
 use lib.Seq.{getD-set-other}
@@ -31,7 +31,7 @@ use Rattle.places.specs.declared.Turn.the-variants.{Next}
 use Rattle.regions.specs.Lookup.{foundIndex}
 use Rattle.regions.specs.declared.Found.{Found}
 use Rattle.regions.specs.declared.Found.the-variants.{At, StartsOutside, EndsOutside}
-use Rattle.block.specs.Blocks.{word, contextWords, blockOf, isBlock, stateOf}
+use Rattle.block.specs.Blocks.{word, contextWords, isBlock, stateOf, blockOver}
 use Rattle.block.specs.Calls.{goodWords, onState, lgSlot}
 use Rattle.block.proofs.Bounds.{block-out}
 use Rattle.block.proofs.Changes.{laws}
@@ -111,8 +111,8 @@ unfolding sending
 low s c = low-lent s (c .tick) (lentBy (opening.goodWords s) (length (c .image)) 4092 (length (c .buffer)))
 
 module _ (b : List ℕ) (fits : (i : ℕ) → word b i < 4294967296) (block : isBlock b ≡ true) where
-  -- the words after a decision are those of the state after it
-  block-after : (d : Sending) → Low d → blockSent b d ≡ blockOf (stateSent (stateOf b) d)
+  -- the words after a decision are those of the state after it, and of entries not in use those before
+  block-after : (d : Sending) → Low d → blockSent b d ≡ blockOver b (stateSent (stateOf b) d)
   unfolding stateOf
   block-after (Keep r) l = sym (block-forth b fits block)
   block-after (Send x) l =
@@ -149,7 +149,7 @@ module _ (b : List ℕ) (fits : (i : ℕ) → word b i < 4294967296) (tick : ℕ
         let o : sentOut (stateOf b) args d ≡ slotCall (stateOf b) args = ap (sentOut (stateOf b) args) f ∙ sym (slot-decided (stateOf b) args) in
         rw k (
           h .0 ∙ ap answerNumber (s .0) ∙ ap (λ (y : Outcome). answerNumber (y .answer)) o,
-          w ∙ block-after b fits k d l ∙ ap (λ (y : Outcome). blockOf (y .state)) o,
+          w ∙ block-after b fits k d l ∙ ap (λ (y : Outcome). blockOver b (y .state)) o,
           s .1 ∙ ap (λ (y : Outcome). y .buffer) o,
           h .1 ∙ ap (λ (y : Answer). answerLength y % 4294967296) (s .0) ∙ low-bytes d l ∙ ap (λ (y : Outcome). answerLength (y .answer)) o,
         )

@@ -54,8 +54,8 @@ module _ (b : List ℕ) (from n w : ℕ) (ew : w ≡ tableWords (regionsIn (take
 
 -- THE STATE'S BLOCK: n and w as the steps have them
 module _ (b : List ℕ) (n w : ℕ) (en : n ≡ word b 0) (ew : w ≡ tableWords (regionsIn (take 48 (drop 1 b)) 0) n) where
-  words-are : {r u : Bool} → r ≡ regionsBounds (take 48 (drop 1 b)) 0 → u ≡ wordRules b → (r && u) ≡ (regionsBounds b 1 && wordRules b)
-  words-are er eu = rw (er, eu, rights-part b 1)
+  words-are : {r u : Bool} → r ≡ regionsBounds (take 48 (drop 1 b)) 0 n → u ≡ wordRules b → (r && u) ≡ (regionsBounds b 1 (word b 0) && wordRules b)
+  words-are er eu = rw (er, eu, en, rights-part b 1 (word b 0))
 
   pools-are : {p : Bool} → p ≡ poolsRules (regionsIn (take 48 (drop 1 b)) 0) n (take 4 (drop 49 b)) 0 → p ≡ poolsRules (regionsIn b 1) (word b 0) b 49
   pools-are e = e ∙ rw (regions-part b 1, en) (pools-tested b 49 (regionsIn b 1) (word b 0))
@@ -67,7 +67,7 @@ module _ (b : List ℕ) (n w : ℕ) (en : n ≡ word b 0) (ew : w ≡ tableWords
   pub table-refused : w ≡ 0 → 0 ≡ goodWords b
   table-refused z = refused b (λ k. contra (rw en (k .table)) (table-none b 1 n w ew z))
 
-  pub words-refused : (r u : Bool) → r ≡ regionsBounds (take 48 (drop 1 b)) 0 → u ≡ wordRules b → not (r && u) ≡ true → 0 ≡ goodWords b
+  pub words-refused : (r u : Bool) → r ≡ regionsBounds (take 48 (drop 1 b)) 0 n → u ≡ wordRules b → not (r && u) ≡ true → 0 ≡ goodWords b
   words-refused r u er eu h = refused b (λ k. contra (words-are er eu ∙ k .words) (not-true (r && u) h))
 
   pub pools-refused : (p : Bool) → p ≡ poolsRules (regionsIn (take 48 (drop 1 b)) 0) n (take 4 (drop 49 b)) 0 → not p ≡ true → 0 ≡ goodWords b
@@ -77,7 +77,7 @@ module _ (b : List ℕ) (n w : ℕ) (en : n ≡ word b 0) (ew : w ≡ tableWords
       → 0 ≡ goodWords b
   places-refused p e h = refused b (λ k. contra (places-are e ∙ k .places) (not-true p h))
 
-  pub all-passed : length b ≡ 80 → w ≢ 0 → (r u : Bool) → r ≡ regionsBounds (take 48 (drop 1 b)) 0 → u ≡ wordRules b → not (r && u) ≡ false
+  pub all-passed : length b ≡ 80 → w ≢ 0 → (r u : Bool) → r ≡ regionsBounds (take 48 (drop 1 b)) 0 n → u ≡ wordRules b → not (r && u) ≡ false
       → (p : Bool) → p ≡ poolsRules (regionsIn (take 48 (drop 1 b)) 0) n (take 4 (drop 49 b)) 0 → not p ≡ false
       → (q : Bool) → q ≡ allBelow (placeTests (regionsIn (take 48 (drop 1 b)) 0) n (take 20 (drop 54 b)) 0) 4 → not q ≡ false → w ≡ goodWords b
   all-passed l s r u er eu hw p ep hp q eq hq =
@@ -100,7 +100,7 @@ same-tests false false f g = refl
 
 module _ (t : List ℕ) (l : length t ≡ 54) where
   -- the parts of the test
-  table-is : goodTable t ≡ (tableRules (regionsIn t 6) (word t 1) && (regionsBounds t 6 && leb (word t 0) 15) && poolsRules (regionsIn t 6) (word t 1) t 2)
+  table-is : goodTable t ≡ (tableRules (regionsIn t 6) (word t 1) && (regionsBounds t 6 (word t 1) && leb (word t 0) 15) && poolsRules (regionsIn t 6) (word t 1) t 2)
   unfolding goodTable isTable startRules
   table-is = same-tests _ _ there back
     where
@@ -108,7 +108,7 @@ module _ (t : List ℕ) (l : length t ≡ 54) where
       table = tableRules (regionsIn t 6) (word t 1)
 
       words : Bool
-      words = regionsBounds t 6 && leb (word t 0) 15
+      words = regionsBounds t 6 (word t 1) && leb (word t 0) 15
 
       first : Bool
       first = poolRules (regionsIn t 6) (word t 1) (rangeIn t 2)
@@ -120,9 +120,9 @@ module _ (t : List ℕ) (l : length t ≡ 54) where
       there h =
           let rules = startRules (regionsIn t 6) (word t 1) (poolsIn t 2) (word t 0) in
           let start = start-out (regionsIn t 6) (word t 1) (poolsIn t 2) (word t 0) (and-right (isTable t) rules h) in
-          let bounds = and-right (eqb (length t) 54) (leb (word t 0) 255 && regionsBounds t 6) (and-left (isTable t) rules h) in
+          let bounds = and-right (eqb (length t) 54) (leb (word t 0) 255 && regionsBounds t 6 (word t 1)) (and-left (isTable t) rules h) in
           and-both
-          (and-both (start .table) (and-both (and-right (leb (word t 0) 255) (regionsBounds t 6) bounds) (le-leb (word t 0) 15 (start .low))))
+          (and-both (start .table) (and-both (and-right (leb (word t 0) 255) (regionsBounds t 6 (word t 1)) bounds) (le-leb (word t 0) 15 (start .low))))
           (and-both (start .pools 0 (omega arith)) (start .pools 1 (omega arith)))
 
       back : (table && words && (first && second)) ≡ true → goodTable t ≡ true
@@ -130,10 +130,10 @@ module _ (t : List ℕ) (l : length t ≡ 54) where
           let two = and-left (table && words) (first && second) h in
           let pools = and-right (table && words) (first && second) h in
           let bounds = and-right table words two in
-          let low = and-right (regionsBounds t 6) (leb (word t 0) 15) bounds in
+          let low = and-right (regionsBounds t 6 (word t 1)) (leb (word t 0) 15) bounds in
           let unit = leb-true (word t 0) 15 low in
           and-both
-          (and-both (eq-eqb (length t) 54 l) (and-both (le-leb (word t 0) 255 (omega arith)) (and-left (regionsBounds t 6) (leb (word t 0) 15) bounds)))
+          (and-both (eq-eqb (length t) 54 l) (and-both (le-leb (word t 0) 255 (omega arith)) (and-left (regionsBounds t 6 (word t 1)) (leb (word t 0) 15) bounds)))
           (and-both (and-both (and-both (and-left table words two) (and-left first second pools)) (and-right first second pools)) low)
 
   -- n and w as the steps have them
@@ -141,16 +141,16 @@ module _ (t : List ℕ) (l : length t ≡ 54) where
     pub bad-table : w ≡ 0 → false ≡ goodTable t
     bad-table z = rw (table-is, ← en, table-none t 6 n w ew z)
 
-    words-agree : {r : Bool} {u : ℕ} → r ≡ regionsBounds (take 48 (drop 6 t)) 0 → u ≡ word t 0 → (r && leb u 15) ≡ (regionsBounds t 6 && leb (word t 0) 15)
-    words-agree er eu = rw (er, eu, rights-part t 6)
+    words-agree : {r : Bool} {u : ℕ} → r ≡ regionsBounds (take 48 (drop 6 t)) 0 n → u ≡ word t 0 → (r && leb u 15) ≡ (regionsBounds t 6 (word t 1) && leb (word t 0) 15)
+    words-agree er eu = rw (er, eu, en, rights-part t 6 (word t 1))
 
-    pub bad-words : (r : Bool) (u : ℕ) → r ≡ regionsBounds (take 48 (drop 6 t)) 0 → u ≡ word t 0 → not (r && leb u 15) ≡ true → false ≡ goodTable t
+    pub bad-words : (r : Bool) (u : ℕ) → r ≡ regionsBounds (take 48 (drop 6 t)) 0 n → u ≡ word t 0 → not (r && leb u 15) ≡ true → false ≡ goodTable t
     bad-words r u er eu h =
-        let no : (regionsBounds t 6 && leb (word t 0) 15) ≡ false = sym (words-agree er eu) ∙ not-true (r && leb u 15) h in
+        let no : (regionsBounds t 6 (word t 1) && leb (word t 0) 15) ≡ false = sym (words-agree er eu) ∙ not-true (r && leb u 15) h in
         rw (table-is, no) (either (tableRules (regionsIn t 6) (word t 1)) (λ e. rw e) (λ e. rw e))
 
-    pub pools-answer : w ≢ 0 → (r : Bool) (u : ℕ) → r ≡ regionsBounds (take 48 (drop 6 t)) 0 → u ≡ word t 0 → not (r && leb u 15) ≡ false
+    pub pools-answer : w ≢ 0 → (r : Bool) (u : ℕ) → r ≡ regionsBounds (take 48 (drop 6 t)) 0 n → u ≡ word t 0 → not (r && leb u 15) ≡ false
         → poolsRules (regionsIn (take 48 (drop 6 t)) 0) n (take 4 (drop 2 t)) 0 ≡ goodTable t
     pools-answer s r u er eu h =
-        let yes : (regionsBounds t 6 && leb (word t 0) 15) ≡ true = sym (words-agree er eu) ∙ not-false (r && leb u 15) h in
+        let yes : (regionsBounds t 6 (word t 1) && leb (word t 0) 15) ≡ true = sym (words-agree er eu) ∙ not-false (r && leb u 15) h in
         rw (table-is, yes, ← en, table-some t 6 n w ew s .0, regions-part t 6) (pools-tested t 2 (regionsIn t 6) n)

@@ -69,7 +69,7 @@ module _ (b : List ℕ) where
   -- the four parts of the test, after that of the length
   pub record Parts : Type 0 where
     pub table : tableRules (regionsIn b 1) (word b 0) ≡ true
-    pub words : (regionsBounds b 1 && wordRules b) ≡ true
+    pub words : (regionsBounds b 1 (word b 0) && wordRules b) ≡ true
     pub pools : poolsRules (regionsIn b 1) (word b 0) b 49 ≡ true
     pub places : allBelow (placeTests (regionsIn b 1) (word b 0) b 54) 4 ≡ true
 
@@ -80,7 +80,7 @@ module _ (b : List ℕ) where
 
   module _ (p : Parts) where
     own-words : WordsAre b
-    own-words = words-out (and-right (regionsBounds b 1) (wordRules b) (p .words))
+    own-words = words-out (and-right (regionsBounds b 1 (word b 0)) (wordRules b) (p .words))
 
     own-place : (i : ℕ) → i < 4 → placeTests (regionsIn b 1) (word b 0) b 54 i ≡ true
     own-place i l = all-at (placeTests (regionsIn b 1) (word b 0) b 54) 4 (p .places) l
@@ -97,7 +97,7 @@ module _ (b : List ℕ) where
         let w = own-words in
         rw (
           eq-eqb (length b) 80 n,
-          and-left (regionsBounds b 1) (wordRules b) (p .words),
+          and-left (regionsBounds b 1 (word b 0)) (wordRules b) (p .words),
           le-leb (word b 53) 255 (omega arith),
           own-bounds 0 (omega arith),
           own-bounds 1 (omega arith),

@@ -4,7 +4,7 @@ use mathlib.Core.Path.{_≡_, refl, sym, ap, _∙_}
 use mathlib.Core.Logic.{_≢_}
 use mathlib.Core.Bool.{Bool, true, false, _&&_, not}
 use mathlib.Core.List.{List, [], _∷_}
-use Prim.Native.Nat.{ℕ, _+_, _*_, _-_, _≤_, _<_}
+use Prim.Native.Nat.{ℕ, _+_, _*_, _-_, _≤_, _<_, min}
 use native.Mathlib.Omega.{arith}
 use lib.Dec.{leb, eqb}
 use lib.ListN.{length, set, take, drop, replicate, length-append, length-take, length-drop, length-set, length-replicate}
@@ -197,14 +197,17 @@ module _ (t f : List ℕ) (m : word t 1 ≤ 16) (w : Written t f) where
         w .counts 4 (omega arith),
       )
 
-  module _ (unit : word t 0 ≤ 255) (rights : regionsBounds t 6 ≡ true) where
-    rights-are : regionsBounds f 1 ≡ true
+  module _ (unit : word t 0 ≤ 255) (rights : regionsBounds t 6 (word t 1) ≡ true) where
+    right-is : (i : ℕ) → i < 16 → leb (word f (1 + 3 * i + 2)) 3 ≡ true
     unfolding regionsBounds
-    rights-are =
-        all-of (λ i. leb (word f (1 + 3 * i + 2)) 3) 16
-        (λ i l. by-lt i (word t 1)
-        (λ q. rw (used-at (3 * i + 2) (1 + 3 * i + 2) (6 + 3 * i + 2) (omega arith) (omega arith) (omega arith)) (all-at (λ j. leb (word t (6 + 3 * j + 2)) 3) 16 rights l))
-        (λ q. rw (spare-at (3 * i + 2) (1 + 3 * i + 2) (omega arith) (omega arith) (omega arith))))
+    right-is i l =
+        by-lt i (word t 1)
+        (λ q. rw (used-at (3 * i + 2) (1 + 3 * i + 2) (6 + 3 * i + 2) (omega arith) (omega arith) (omega arith)) (all-at (λ j. leb (word t (6 + 3 * j + 2)) 3) (min (word t 1) 16) rights (omega arith)))
+        (λ q. rw (spare-at (3 * i + 2) (1 + 3 * i + 2) (omega arith) (omega arith) (omega arith)))
+
+    rights-are : regionsBounds f 1 (word f 0) ≡ true
+    unfolding regionsBounds
+    rights-are = all-of (λ i. leb (word f (1 + 3 * i + 2)) 3) (min (word f 0) 16) (λ i l. right-is i (omega arith))
 
     zero-place : (k at : ℕ) → k + 4 < 20 → 54 + k ≡ at → placeBounds f at ≡ true
     unfolding placeBounds
@@ -234,7 +237,7 @@ module _ (t f : List ℕ) (m : word t 1 ≤ 16) (w : Written t f) where
         )
 
     block-is : blockOf (freshState (entriesUsed (regionsIn t 6) (word t 1)) (word t 1) (poolsIn t 2) (word t 0)) ≡ f
-    block-is = let e = w .count in ap blockOf (sym state-is) ∙ block-of f (omega arith) is-block
+    block-is = let e = w .count in ap blockOf (sym state-is) ∙ block-of f (omega arith) is-block (λ i l. leb-true (word f (1 + 3 * i + 2)) 3 (right-is i l))
 
 -- START-UP
 
@@ -265,30 +268,30 @@ module _ (t : List ℕ) where
         → blockOf (freshState (entriesUsed (regionsIn t 6) (word t 1)) (word t 1) (poolsIn t 2) (word t 0)) ≡ tableWritten t (blockOf noState)
     unfolding tableWritten isTable
     fresh-block n =
-        let bounds = and-right (eqb (length t) 54) (leb (word t 0) 255 && regionsBounds t 6) is-table in
+        let bounds = and-right (eqb (length t) 54) (leb (word t 0) 255 && regionsBounds t 6 (word t 1)) is-table in
         let m = count-low in
         rw none-block
-        (block-is t _ m (written t n m) (leb-true (word t 0) 255 (and-left (leb (word t 0) 255) (regionsBounds t 6) bounds))
-        (and-right (leb (word t 0) 255) (regionsBounds t 6) bounds))
+        (block-is t _ m (written t n m) (leb-true (word t 0) 255 (and-left (leb (word t 0) 255) (regionsBounds t 6 (word t 1)) bounds))
+        (and-right (leb (word t 0) 255) (regionsBounds t 6 (word t 1)) bounds))
 
   broken : goodTable t ≡ false → isTable t ≡ true → startRules (regionsIn t 6) (word t 1) (poolsIn t 2) (word t 0) ≡ false
   unfolding goodTable
   broken h e = rw e at h
 
   module _ (b : List ℕ) where
-    pub other-table : length t ≢ 54 → (17 ≡ lgStartUp t b .number) × (b ≡ lgStartUp t b .state)
+    pub other-state : length b ≢ 80 → (17 ≡ lgStartUp t b .number) × (b ≡ lgStartUp t b .state)
     unfolding lgStartUp
-    other-table n = rw (ne-eqb (length t) 54 n) (refl, refl)
+    other-state k = rw (ne-eqb (length b) 80 k) (refl, refl)
 
-    pub other-state : length t ≡ 54 → length b ≢ 80 → (17 ≡ lgStartUp t b .number) × (b ≡ lgStartUp t b .state)
-    unfolding lgStartUp
-    other-state n k = rw (eq-eqb (length t) 54 n, ne-eqb (length b) 80 k) (refl, refl)
+    pub other-table : length b ≡ 80 → (z : List ℕ) → z ≡ blockOf noState → length t ≢ 54 → (17 ≡ lgStartUp t b .number) × (z ≡ lgStartUp t b .state)
+    unfolding lgStartUp tableOf startUp isTable
+    other-table k z ez n = rw (eq-eqb (length b) 80 k, ne-eqb (length t) 54 n, no-table) (refl, ez)
 
     module _ (n : length t ≡ 54) (k : length b ≡ 80) (g : Bool) (eg : g ≡ goodTable t) (z : List ℕ) (ez : z ≡ blockOf noState) where
       pub not-taken : not g ≡ true → (17 ≡ lgStartUp t b .number) × (z ≡ lgStartUp t b .state)
       unfolding lgStartUp tableOf startUp
       not-taken h =
-          rw (eq-eqb (length t) 54 n, eq-eqb (length b) 80 k)
+          rw (eq-eqb (length b) 80 k)
           (either (isTable t)
           (λ e. rw (e, broken (sym eg ∙ not-true g h) e) (refl, ez))
           (λ e. rw (e, no-table) (refl, ez)))
@@ -297,7 +300,7 @@ module _ (t : List ℕ) where
       unfolding lgStartUp tableOf startUp
       taken h f ef =
           let good : goodTable t ≡ true = sym eg ∙ not-false g h in
-          rw (eq-eqb (length t) 54 n, eq-eqb (length b) 80 k, is-table good, rules good)
+          rw (eq-eqb (length b) 80 k, is-table good, rules good)
           (refl, ef ∙ ap (tableWritten t) ez ∙ sym (fresh-block good n))
 
 -- the writes of a table, one after the other

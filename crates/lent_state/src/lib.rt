@@ -125,7 +125,7 @@ pub fn good_words(b: &[u32]) -> usize
     if words == 0 {
         return 0;
     }
-    if !(rights_bounds(rs) & word_rules(b)) {
+    if !(rights_bounds(rs, n) & word_rules(b)) {
         return 0;
     }
     if !pools_rules(rs, n, &b[49..53]) {
@@ -149,7 +149,7 @@ fn table_good(t: &[u32]) -> bool
     if table_words(rs, n) == 0 {
         return false;
     }
-    if !(rights_bounds(rs) & (word_at(t, 0) <= 15)) {
+    if !(rights_bounds(rs, n) & (word_at(t, 0) <= 15)) {
         return false;
     }
     pools_rules(rs, n, &t[2..6])
@@ -188,17 +188,18 @@ fn put_table(t: &[u32], b: &mut [u32])
     set_word(b, 53, unit);
 }
 
-// Start-up with the table in a block: the state's block, and 17 for a table that breaks a rule. To a block of another length nothing is written.
+// Start-up with the table in a block: the state's block, and 17 for a table that breaks a rule or has another length. To a state block of another
+// length nothing is written.
 pub fn start_up(t: &[u32], b: &mut [u32]) -> Verdict
     ensures { λ v. ⌜ (verdictNumber v ≡ lgStartUp (now (t .entry)) (now (b .entry)) .number) × (now (b .exit) ≡ lgStartUp (now (t .entry)) (now (b .entry)) .state) ⌝ }
 {
-    if t.len() != 54 {
-        return Verdict::Rejected(Refusal::BadTable);
-    }
     if b.len() != 80 {
         return Verdict::Rejected(Refusal::BadTable);
     }
     put_none(b);
+    if t.len() != 54 {
+        return Verdict::Rejected(Refusal::BadTable);
+    }
     if !table_good(t) {
         return Verdict::Rejected(Refusal::BadTable);
     }

@@ -1,7 +1,9 @@
 -- Whose packet is next, and what of a busy dump's rules does not need the region table.
+use mathlib.Core.Path.{_≡_}
+use mathlib.Core.Logic.{_↔_}
 use mathlib.Core.Bool.{Bool, _&&_}
 use mathlib.Core.List.{List}
-use Prim.Native.Nat.{ℕ, _%_}
+use Prim.Native.Nat.{ℕ, _+_, _%_, _<_}
 use lib.Dec.{leb, ltb, eqb}
 use Rattle.lists.specs.Below.{firstBelow}
 use Rattle.rules.specs.Regions.{aligned}
@@ -32,3 +34,15 @@ unfoldable pub dumpFields : ActiveDump → Bool
 dumpFields d =
     leb (d .transaction) 4095 && leb 1 (d .range .words) && leb (d .range .words) 65535 && aligned (d .range)
     && eqb (d .sent % pieceWords (d .range)) 0 && ltb (d .sent) (d .range .words)
+
+-- THE NUMBERS (paper 01, "Result numbers"): 16 where no dump is busy, and 0 with the dump whose packet is next
+abbrev pub turnNumber : Turn → ℕ
+turnNumber Nobody = 16
+turnNumber (Next x) = 0
+
+-- each exactly in its case; whose turn it is: the first busy place after the last one served, going round
+pub record TurnNumbers (ps : List Place) (last : ℕ) (r : Turn) : Type 0 where
+  pub nobody : (turnNumber r ≡ 16) ↔ ((i : ℕ) → i < 4 → contextAt ps i ≡ Idle)
+  pub next : (x : Seat) → r ≡ Next x
+      → (k : ℕ) × (k < 4) × (x .place ≡ (last + 1 + k) % 4) × (contextAt ps (x .place) ≡ Busy (x .dump))
+      × ((j : ℕ) → j < k → contextAt ps ((last + 1 + j) % 4) ≡ Idle)

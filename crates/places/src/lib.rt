@@ -1,10 +1,13 @@
 // Dump places: what one does, and the four of a State. The four of a block of words are in lent_places.
 ghost use mathlib.Core.Path.{_≡_};
+ghost use mathlib.Core.List.{List};
+ghost use Prim.Native.Nat.{ℕ, _≤_};
 ghost use lib.ListN.{length};
 ghost use Rattle.rules.specs.States.{contextAt, busyWith};
 ghost use Rattle.rules.specs.Commands.{isIdle, firstIdle, setContext};
 ghost use Rattle.rules.specs.Slots.{nextPlace, afterPacket};
-ghost use Rattle.places.specs.Turns.{turnOf, nextTurn, firstWithin, dumpFields};
+ghost use Rattle.places.specs.Turns.{turnOf, nextTurn, firstWithin, dumpFields, TurnNumbers};
+ghost use Rattle.rules.specs.declared.Place.{Place};
 use rules::ActiveDump;
 use rules::Context;
 use rules::Place;
@@ -164,3 +167,8 @@ pub fn set_context(ps: [Place; 4], i: usize, a: Context) -> [Place; 4]
     }
     qs
 }
+
+// The number of whose turn it is, exactly in its case. This function does nothing: its contract is what is proved.
+pub fn numbers_of_turns()
+    ensures { λ r. ⌜ ((ps : List Place) (last : ℕ) → last ≤ 3 → TurnNumbers ps last (nextTurn ps last)) ⌝ }
+{}

@@ -1,12 +1,13 @@
 // The walk over a pool's blocks, and the bytes of the reply that tells its figures.
 ghost use mathlib.Core.Path.{_≡_};
 ghost use mathlib.Core.Bool.{cond};
-ghost use Prim.Native.Nat.{_+_, _-_, _%_, _≤_, _<_};
+ghost use mathlib.Core.List.{List};
+ghost use Prim.Native.Nat.{ℕ, _+_, _-_, _%_, _≤_, _<_};
 ghost use lib.ListN.{length};
 ghost use Rattle.lists.specs.Splice.{splice};
 ghost use Rattle.wire.specs.Bytes.{wordBytes};
 ghost use Rattle.rules.specs.Pools.{blockOf, blocksOf};
-ghost use Rattle.pool.specs.Answers.{tallied, walkedOf, figureBytes};
+ghost use Rattle.pool.specs.Answers.{tallied, walkedOf, figureBytes, WalkedNumbers};
 use wire::put_words;
 
 // Free words, free blocks, usable words of the largest free block; used words, used blocks.
@@ -129,3 +130,8 @@ pub fn put_reply(reply: &mut [u8], count: u16, unit: u8, transaction: u16, pool:
     let words = reply_words(count, unit, transaction, pool, f);
     put_words(reply, 0, &words);
 }
+
+// The number of a pool's walk, exactly in its case. This function does nothing: its contract is what is proved.
+pub fn numbers_of_walks()
+    ensures { λ r. ⌜ ((ws : List ℕ) → WalkedNumbers ws (walkedOf (blocksOf ws))) ⌝ }
+{}

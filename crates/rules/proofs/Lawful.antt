@@ -190,7 +190,7 @@ slot-refused s c = concluded (lowest (slotRows s c))
     concluded Accepted n = turned (nextPlace (s .places) (s .last)) (contextAt (s .places) (nextPlace (s .places) (s .last))) n
 
 -- what is lent to a slot that answers 0 is right
-slot-lent : (s : State) (c : SlotArgs) → goodState s ≡ true → answerNumber (slotCall s c .answer) ≡ 0
+pub slot-lent : (s : State) (c : SlotArgs) → goodState s ≡ true → answerNumber (slotCall s c .answer) ≡ 0
     → (length (c .image) ≡ imageLength (s .regions) (s .count)) × (longestPacket ≤ length (c .buffer))
 unfolding slotCall slotRows lowest lentRows
 slot-lent s c g h =
@@ -352,7 +352,7 @@ module _ (D : Demand2) (s : State) (good : goodState s ≡ true) where
 
 -- A LIST OF CALLS
 
-lends-rest : (c : Call) (cs : List Call) → LendsBytes (c ∷ cs) → LendsBytes cs
+pub lends-rest : (c : Call) (cs : List Call) → LendsBytes (c ∷ cs) → LendsBytes cs
 lends-rest (command c) cs b = b .1
 lends-rest (slot c) cs b = b
 

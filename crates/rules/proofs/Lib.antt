@@ -46,3 +46,9 @@ pub mod Examples
 pub mod FurtherExamples
 pub mod SymbolExamples
 pub mod BoundExamples
+pub mod Silence
+pub mod LoadBack
+pub mod NumberExamples
+pub mod OneFault
+pub mod Replies
+pub mod PoolsApart

@@ -229,7 +229,8 @@ box-fits p b is =
     }
 
 pub read-slot : (p : List ℕ) → AreBytes p → packetNumber (readPacket p .reading) ≡ 0
-    → (s : State) × (c : SlotArgs) × SlotFits s c × (answerNumber (slotCall s c .answer) ≡ 0) × (packetOf s c ≡ p)
+    → (s : State) × (c : SlotArgs) × (length (s .regions) ≡ 16) × (length (s .pools) ≡ 2) × SlotFits s c × (answerNumber (slotCall s c .answer) ≡ 0)
+    × (packetOf s c ≡ p)
 read-slot p b h =
     let is = packet-out p h in
     let f = packetFields p in
@@ -241,6 +242,8 @@ read-slot p b h =
     let x = e .done a in (
       s,
       c,
+      refl,
+      refl,
       fit,
       a,
       x .packet

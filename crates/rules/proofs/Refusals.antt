@@ -1,7 +1,7 @@
 -- Demand 1: each call gives each number exactly in its case, and a refusal leaves all as it was, save the refused count where it counts.
 -- Assumes nothing.
 use mathlib.Core.Path.{_≡_, refl, sym, _∙_}
-use mathlib.Core.Logic.{_≢_}
+use mathlib.Core.Logic.{_≢_, inl, inr}
 use mathlib.Core.Bool.{true, false}
 use mathlib.Core.List.{List, []}
 use Prim.Native.Nat.{ℕ, suc, _*_, _≤_}
@@ -337,6 +337,7 @@ start-refusals rs n pools unit =
     either (startRules rs n pools unit)
     (λ e.
     record {
+      only = inl (rw e);
       ready = rw e (λ z. refl, λ z. refl);
       refused = rw e (λ z. absurd (omega arith), λ z. absurd (contra refl z));
       nothing = rw e (λ z. absurd (omega arith));
@@ -346,6 +347,7 @@ start-refusals rs n pools unit =
     })
     (λ e.
     record {
+      only = inr (rw e);
       ready = rw e (λ z. absurd (omega arith), λ z. absurd (contra z refl));
       refused = rw e (λ z. refl, λ z. refl);
       nothing = rw e (λ z. refl);

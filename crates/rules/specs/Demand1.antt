@@ -3,7 +3,7 @@
 -- as it was, save a refused count where paper 01's "Result numbers" and paper 02, A2 and A5 say so.
 -- That every call ends and touches only what it was lent is no statement here: the checker proves it of each function that has a body.
 use mathlib.Core.Path.{_≡_}
-use mathlib.Core.Logic.{_≢_, _↔_}
+use mathlib.Core.Logic.{_≢_, _↔_, _⊎_}
 use mathlib.Core.Bool.{true, false, cond}
 use mathlib.Core.List.{List, [], _∷_, _++_}
 use Prim.Native.Nat.{ℕ, _+_, _*_, _-_, _%_, _<_}
@@ -104,6 +104,8 @@ pub record SlotRefusals (s : State) (c : SlotArgs) (o : Outcome) : Type 0 where
   pub lent : length (o .buffer) ≡ length (c .buffer)
 
 pub record StartRefusals (rs : List Region) (n : ℕ) (pools : List Range) (unit : ℕ) : Type 0 where
+  -- 0 or 17 and no other number
+  pub only : (verdictNumber (startUp rs n pools unit .verdict) ≡ 0) ⊎ (verdictNumber (startUp rs n pools unit .verdict) ≡ 17)
   pub ready : (verdictNumber (startUp rs n pools unit .verdict) ≡ 0) ↔ (startRules rs n pools unit ≡ true)
   pub refused : (verdictNumber (startUp rs n pools unit .verdict) ≡ 17) ↔ (startRules rs n pools unit ≡ false)
   pub nothing : verdictNumber (startUp rs n pools unit .verdict) ≡ 17 → startUp rs n pools unit .state

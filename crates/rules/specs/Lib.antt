@@ -20,3 +20,9 @@ pub mod SymbolExamples
 pub mod BoundExamples
 pub mod PlainWords
 pub mod PlainBytes
+pub mod Silence
+pub mod LoadBack
+pub mod NumberExamples
+pub mod OneFault
+pub mod Replies
+pub mod PoolsApart

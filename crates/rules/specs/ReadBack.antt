@@ -126,4 +126,5 @@ pub record ReadBack : Type 0 where
       × (readPacket (packetOf s c) .part ≡ wordBytes (nextWords s (c .image) (d .dump)))
   -- what is accepted is what some slot writes
   pub read-slot : (p : List ℕ) → AreBytes p → packetNumber (readPacket p .reading) ≡ 0
-      → (s : State) × (c : SlotArgs) × SlotFits s c × (answerNumber (slotCall s c .answer) ≡ 0) × (packetOf s c ≡ p)
+      → (s : State) × (c : SlotArgs) × (length (s .regions) ≡ 16) × (length (s .pools) ≡ 2) × SlotFits s c × (answerNumber (slotCall s c .answer) ≡ 0)
+      × (packetOf s c ≡ p)

@@ -1,6 +1,7 @@
 // The types of the memory service, and paper 01's examples and demands as theorems over the definitions in specs/.
 ghost use Rattle.rules.specs.Examples.{Examples};
 ghost use Rattle.rules.specs.FurtherExamples.{FurtherExamples};
+ghost use Rattle.rules.specs.NumberExamples.{NumberExamples};
 ghost use Rattle.rules.specs.BoundExamples.{BoundExamples};
 ghost use Rattle.rules.specs.SymbolExamples.{SymbolExamples};
 ghost use Rattle.rules.specs.Demand1.{Demand1};
@@ -9,6 +10,11 @@ ghost use Rattle.rules.specs.Demand3.{Demand3};
 ghost use Rattle.rules.specs.ReadBack.{ReadBack};
 ghost use Rattle.rules.specs.PlainBytes.{PlainBytes};
 ghost use Rattle.rules.specs.PlainWords.{PlainWords};
+ghost use Rattle.rules.specs.OneFault.{OneFault};
+ghost use Rattle.rules.specs.Silence.{Silence};
+ghost use Rattle.rules.specs.LoadBack.{LoadBack};
+ghost use Rattle.rules.specs.Replies.{Replies};
+ghost use Rattle.rules.specs.PoolsApart.{PoolsApart};
 
 // A byte address.
 pub struct Address(pub u32);
@@ -209,6 +215,11 @@ pub fn further_cases()
     ensures { λ r. ⌜ FurtherExamples ⌝ }
 {}
 
+// Every number that those leave out, on literal bytes, with the refused count.
+pub fn number_examples()
+    ensures { λ r. ⌜ NumberExamples ⌝ }
+{}
+
 // Start-up, good states, counts and places at each of their bounds and one past it.
 pub fn bound_examples()
     ensures { λ r. ⌜ BoundExamples ⌝ }
@@ -247,4 +258,29 @@ pub fn plain_bytes()
 // What the shared definitions say of tables, places and the image's words, by their index.
 pub fn plain_words()
     ensures { λ r. ⌜ PlainWords ⌝ }
+{}
+
+// After a cancel no slot writes a packet with its number until a dump with it is accepted again.
+pub fn silence_after_a_cancel()
+    ensures { λ r. ⌜ Silence ⌝ }
+{}
+
+// What a load wrote comes back in the packet of a dump, byte for byte.
+pub fn load_comes_back()
+    ensures { λ r. ⌜ LoadBack ⌝ }
+{}
+
+// An accepted packet with one thing changed gets exactly the number of that thing.
+pub fn one_fault()
+    ensures { λ r. ⌜ OneFault ⌝ }
+{}
+
+// The words of the two replies, from the words and bytes that were lent.
+pub fn replies_from_the_lent()
+    ensures { λ r. ⌜ Replies ⌝ }
+{}
+
+// Each pool is judged as if the other were none.
+pub fn pools_apart()
+    ensures { λ r. ⌜ PoolsApart ⌝ }
 {}

@@ -5,3 +5,4 @@ pub mod Logic
 pub mod Steps
 pub mod Words
 pub mod Grown
+pub mod Told

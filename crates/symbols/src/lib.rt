@@ -1,12 +1,13 @@
 // The symbol table lent to a command call: whether bytes are one, and what a name resolves to in it.
 ghost use mathlib.Core.Path.{_≡_};
 ghost use mathlib.Core.Bool.{true, not};
-ghost use Prim.Native.Nat.{_+_, _*_, _≤_, _<_};
+ghost use mathlib.Core.List.{List};
+ghost use Prim.Native.Nat.{ℕ, _+_, _*_, _≤_, _<_};
 ghost use lib.ListN.{length, take, drop};
 ghost use Rattle.lists.specs.Below.{allBelow, anyBelow};
 ghost use Rattle.wire.specs.Bytes.{beAt};
 ghost use Rattle.symbols.specs.Table.{sameName, symbolsIn, nameAt, padded, symbolRules, symbolTable, valueAt};
-ghost use Rattle.symbols.specs.Answers.{KnownOf, knownOf, foundIn, symbolOf};
+ghost use Rattle.symbols.specs.Answers.{KnownOf, knownOf, foundIn, symbolOf, SymbolNumbers};
 ghost use Rattle.symbols.specs.Record.{recordRules};
 ghost use Rattle.symbols.specs.RecordByRecord.{RecordByRecord};
 ghost use Rattle.symbols.specs.Words.{nameWords, hasFirst, hasWords};
@@ -270,4 +271,9 @@ pub fn symbol_of(t: &[u8], known: Known, name: &[u8]) -> Symbol
 // A table record by record. This function does nothing: its contract is what is proved.
 pub fn record_by_record()
     ensures { λ r. ⌜ RecordByRecord ⌝ }
+{}
+
+// The number of a name's lookup, exactly in its case. This function does nothing: its contract is what is proved.
+pub fn numbers_of_symbols()
+    ensures { λ r. ⌜ ((t name : List ℕ) → SymbolNumbers t name (symbolOf t name)) ⌝ }
 {}

@@ -35,9 +35,10 @@ fn unpack_region(words: &[u32]) -> Option<Region> {
     Some(Region { start: Address(words[0]), size: words[1], load: words[2] % 2 == 1, dump: words[2] / 2 == 1 })
 }
 
-fn unpack_regions(words: &[u32]) -> Option<[Region; REGIONS_MOST]> {
+/// An entry that is not in use may hold anything, and counts as none.
+fn unpack_regions(words: &[u32], in_use: u32) -> Option<[Region; REGIONS_MOST]> {
     let mut regions = [NO_REGION; REGIONS_MOST];
-    for (i, region) in regions.iter_mut().enumerate() {
+    for (i, region) in regions.iter_mut().enumerate().take(in_use as usize) {
         *region = unpack_region(&words[3 * i..3 * i + 3])?;
     }
     Some(regions)
@@ -104,7 +105,7 @@ pub fn unpack_state(block: &[u32]) -> Option<State> {
     Some(State {
         setup: Setup {
             region_count: block[0],
-            regions: unpack_regions(&block[1..49])?,
+            regions: unpack_regions(&block[1..49], block[0])?,
             pools: [Pool { start: Address(block[49]), size: block[50] }, Pool { start: Address(block[51]), size: block[52] }],
             unit: block[53],
         },
@@ -116,6 +117,16 @@ pub fn unpack_state(block: &[u32]) -> Option<State> {
         accepted: block[77],
         refused: block[78],
     })
+}
+
+/// The block of the state after a call: the words of entries that are not in use stay.
+fn put_back(block: &mut [u32], after: &State) {
+    let unused = 1 + 3 * (after.setup.region_count as usize).min(REGIONS_MOST)..49;
+    for (i, (word, packed)) in block.iter_mut().zip(pack_state(after)).enumerate() {
+        if !unused.contains(&i) {
+            *word = packed;
+        }
+    }
 }
 
 pub fn pack_setup(setup: &Setup) -> [u32; TABLE_WORDS] {
@@ -132,14 +143,14 @@ pub fn pack_setup(setup: &Setup) -> [u32; TABLE_WORDS] {
     block
 }
 
-/// None: a word out of its bounds. The length is right.
+/// None: another length, or a word out of its bounds.
 fn unpack_setup(block: &[u32]) -> Option<Setup> {
-    if block[0] > 255 {
+    if block.len() != TABLE_WORDS || block[0] > 255 {
         return None;
     }
     Some(Setup {
         region_count: block[1],
-        regions: unpack_regions(&block[6..54])?,
+        regions: unpack_regions(&block[6..54], block[1])?,
         pools: [Pool { start: Address(block[2]), size: block[3] }, Pool { start: Address(block[4]), size: block[5] }],
         unit: block[0],
     })
@@ -228,7 +239,7 @@ pub mod by_model {
     use super::*;
 
     pub fn start_up(table: &[u32], state: &mut [u32]) -> u32 {
-        if table.len() != TABLE_WORDS || state.len() != STATE_WORDS {
+        if state.len() != STATE_WORDS {
             return 17;
         }
         let (number, after) = match unpack_setup(table) {
@@ -252,7 +263,7 @@ pub mod by_model {
             None => 1,
             Some(before) => {
                 let answer = command_call(&before, packet, symbols, image, reply);
-                state.copy_from_slice(&pack_state(&answer.state));
+                put_back(state, &answer.state);
                 *reply_length = answer.reply_length;
                 answer.number
             }
@@ -277,7 +288,7 @@ pub mod by_model {
             None => answers[..starts.len()].fill(Answer { number: 1, length: 0 }),
             Some(before) => {
                 let batch = batch_call(&before, bytes, starts, lengths, symbols, image, replies);
-                state.copy_from_slice(&pack_state(&batch.state));
+                put_back(state, &batch.state);
                 for (record, item) in answers.iter_mut().zip(&batch.answers) {
                     *record = Answer { number: item.number, length: item.reply_length };
                 }
@@ -292,7 +303,7 @@ pub mod by_model {
             None => 1,
             Some(before) => {
                 let answer = slot_call(&before, tick, image, buffer);
-                state.copy_from_slice(&pack_state(&answer.state));
+                put_back(state, &answer.state);
                 *length = answer.length;
                 answer.number
             }

@@ -298,6 +298,14 @@ const CODES: [(u8, &str); 6] =
     [(0, "dump"), (1, "cancel"), (4, "load"), (7, "pool statistics"), (8, "value of a symbol"), (9, "dump by name")];
 /// By the free blocks: none, each of one word, and others. The last is answered 10.
 const POOLS: [&str; 4] = ["no free block", "free blocks of one word", "larger ones", "absent"];
+
+/// Blocks by what is odd about them.
+const BLOCKS: [&str; 4] = [
+    "table of another length, state of 80 words",
+    "rights over 3 in an unused entry: start-ups answered 0",
+    "commands answered 0",
+    "slots answered 0",
+];
 /// The codes of `CODES` that name a range, and where one lies that gets 19, 10 or, beside them, 0.
 const RANGE_CODES: [usize; 3] = [0, 2, 5];
 const RANGES: [(u32, &str); 7] = [
@@ -340,6 +348,7 @@ struct Run {
     /// Commands answered 0 by function code.
     done: [u64; CODES.len()],
     pools: [u64; POOLS.len()],
+    blocks: [u64; BLOCKS.len()],
     /// Ranges that got the number of their kind, by code.
     ranges: [[u64; RANGES.len()]; RANGE_CODES.len()],
     /// Checks of a dump by what was handed over; and those that told of a bad packet or a missing piece, and of which.
@@ -430,6 +439,7 @@ impl Run {
             tables: [0; TABLES.len()],
             done: [0; CODES.len()],
             pools: [0; POOLS.len()],
+            blocks: [0; BLOCKS.len()],
             ranges: [[0; RANGES.len()]; RANGE_CODES.len()],
             checks: [0; CHECKS.len()],
             told: [(0, 0); 2],
@@ -472,6 +482,7 @@ impl Run {
         if call.kind == Kind::CheckDump {
             self.checks[call.check] += 1;
         }
+        self.count_blocks(call, door.number);
         if call.kind == Kind::Command {
             self.count_command(call, &call.packet, door.number, &door.buffer);
         }
@@ -482,6 +493,20 @@ impl Run {
             }
         }
         door
+    }
+
+    /// Table blocks of another length with a state block that fits; and blocks that are taken with rights over 3 in an entry that is not in use.
+    fn count_blocks(&mut self, call: &Call, number: u32) {
+        let odd = |entries: &[u32], in_use: u32| entries.chunks(3).skip(in_use as usize).any(|entry| entry[2] > 3);
+        match call.kind {
+            Kind::StartUp => {
+                self.blocks[0] += u64::from(call.fixed.len() != door::TABLE_WORDS && call.words.len() == door::STATE_WORDS);
+                self.blocks[1] += u64::from(number == 0 && odd(&call.fixed[6..54], call.fixed[1]));
+            }
+            Kind::Command => self.blocks[2] += u64::from(number == 0 && odd(&call.words[1..49], call.words[0])),
+            Kind::Slot => self.blocks[3] += u64::from(number == 0 && odd(&call.words[1..49], call.words[0])),
+            _ => {}
+        }
     }
 
     /// A call's packet, or that of an item: what it got, and its reply.
@@ -815,13 +840,14 @@ impl Run {
         println!("dumps checked: {}; a bad packet told {} times, up to packet {}; a missing piece {} times, up to piece {}", list(&CHECKS, &self.checks), bad.0, bad.1, missing.0, missing.1);
         println!("commands done: {}", list(&CODES.map(|code| code.1), &self.done));
         println!("pools told: {}", list(&POOLS, &self.pools));
+        println!("blocks: {}", list(&BLOCKS, &self.blocks));
         for (k, counts) in RANGE_CODES.iter().zip(&self.ranges) {
             let each: Vec<String> = RANGES.iter().zip(counts).map(|((number, place), n)| format!("{number} {place} {n}")).collect();
             println!("ranges of a {}: {}", CODES[*k].1, each.join(", "));
         }
         println!("symbol tables that codes 8 and 9 tested: {}", list(&TABLES[..NO_TABLE], &self.tables));
         println!("no symbol tables: {}; table or none: {}", list(&TABLES[NO_TABLE..DISTURBED], &self.tables[NO_TABLE..]), self.tables[DISTURBED]);
-        complete && self.done.iter().chain(&self.pools).chain(&self.tables).chain(&self.checks).chain(self.ranges.iter().flatten()).all(|&n| n > 0)
+        complete && self.done.iter().chain(&self.pools).chain(&self.blocks).chain(&self.tables).chain(&self.checks).chain(self.ranges.iter().flatten()).all(|&n| n > 0)
     }
 }
 

@@ -536,7 +536,7 @@ pub fn break_state(rng: &mut Rng, state: &State) -> Vec<u32> {
             // Words that the block cannot hold.
             let mut block = pack_state(&state).to_vec();
             match rng.below(3) {
-                0 => block[3 + 3 * rng.below(16) as usize] = rng.pick(&[4, 5, 7, 255, 256, u32::MAX]),
+                0 => block[3 + 3 * rng.below(u64::from(state.setup.region_count)) as usize] = rng.pick(&[4, 5, 7, 255, 256, u32::MAX]),
                 1 => block[54 + 5 * rng.below(4) as usize] = rng.pick(&[2, 3, 255, 256, 257, u32::MAX]),
                 _ => {
                     let i = rng.below(4) as usize;
@@ -563,6 +563,27 @@ pub fn break_state(rng: &mut Rng, state: &State) -> Vec<u32> {
         state.setup.unit = rng.pick(&[256, 257, 65_536, u32::MAX]);
     }
     pack_state(&state).to_vec()
+}
+
+/// Any words in the entries of a block that are not in use, now and then.
+fn fill_unused(rng: &mut Rng, entries: &mut [u32], in_use: u32) {
+    if rng.one_in(3) {
+        for word in entries.iter_mut().skip(3 * in_use as usize) {
+            *word = if rng.one_in(3) { rng.below(8) as u32 } else { rng.word() };
+        }
+    }
+}
+
+pub fn state_block(rng: &mut Rng, state: &State) -> Vec<u32> {
+    let mut block = pack_state(state).to_vec();
+    fill_unused(rng, &mut block[1..49], state.setup.region_count);
+    block
+}
+
+fn table_block(rng: &mut Rng, setup: &Setup) -> Vec<u32> {
+    let mut block = pack_setup(setup).to_vec();
+    fill_unused(rng, &mut block[6..54], setup.region_count);
+    block
 }
 
 /// One region with both rights, no pools, all places idle; the rest of the state as it was.
@@ -1427,26 +1448,26 @@ pub fn start_up_call(rng: &mut Rng, turn: u64) -> Call {
     let mut setup = good_setup(rng, scale);
     match turn % 8 {
         0..=2 => {
-            call.fixed = pack_setup(&setup).to_vec();
+            call.fixed = table_block(rng, &setup);
             call.expected = Some(0);
         }
         3 | 4 => {
             break_setup(rng, &mut setup);
-            call.fixed = pack_setup(&setup).to_vec();
+            call.fixed = table_block(rng, &setup);
             call.expected = Some(17);
         }
         5 => {
             // Words out of their bounds in the block.
-            call.fixed = pack_setup(&setup).to_vec();
+            call.fixed = table_block(rng, &setup);
             match rng.below(2) {
-                0 => call.fixed[8 + 3 * rng.below(16) as usize] = rng.pick(&[4, 5, 255, 256, u32::MAX]),
+                0 => call.fixed[8 + 3 * rng.below(u64::from(setup.region_count)) as usize] = rng.pick(&[4, 5, 255, 256, u32::MAX]),
                 _ => call.fixed[0] = rng.pick(&[256, 257, 65_536, u32::MAX]),
             }
             call.expected = Some(17);
         }
         6 => {
             // Another length of one block or both.
-            call.fixed = pack_setup(&setup).to_vec();
+            call.fixed = table_block(rng, &setup);
             let which = rng.below(3);
             if which != 1 {
                 let n = rng.pick(&[0, 1, 53, 55, 80]);
@@ -1461,7 +1482,7 @@ pub fn start_up_call(rng: &mut Rng, turn: u64) -> Call {
             call.expected = Some(17);
         }
         _ => {
-            call.fixed = pack_setup(&setup).to_vec();
+            call.fixed = table_block(rng, &setup);
             match rng.below(4) {
                 0 => call.fixed = rng.words(TABLE_WORDS),
                 1 => {
@@ -1767,7 +1788,7 @@ pub fn aimed_command(rng: &mut Rng, aim: u32) -> Call {
     if faults.contains(&2) {
         wrong_length(rng, &mut call.image);
     }
-    call.words = if faults.contains(&1) { break_state(rng, &state) } else { pack_state(&state).to_vec() };
+    call.words = if faults.contains(&1) { break_state(rng, &state) } else { state_block(rng, &state) };
     call.expected = Some(aim);
     call
 }
@@ -1794,7 +1815,7 @@ pub fn free_command(rng: &mut Rng) -> Call {
     }
     let n = if rng.one_in(20) { short_length(rng, 32) } else { buffer_length(rng, 32) };
     call.buffer = rng.bytes(n);
-    call.words = pack_state(&state).to_vec();
+    call.words = state_block(rng, &state);
     if rng.one_in(4) {
         disturb_block(rng, &mut call.words);
     }
@@ -2078,7 +2099,7 @@ pub fn aimed_batch(rng: &mut Rng, aim: u32) -> Call {
     (call.symbols, call.table) = if table { (symbols.bytes(), symbols.kind()) } else { symbols.broken(rng) };
     let last = rng.below(2) as usize;
     call.image = image_for(rng, &state.setup, last, None);
-    call.words = pack_state(&state).to_vec();
+    call.words = state_block(rng, &state);
     if aim == 3 {
         match way {
             0 | 1 => {}
@@ -2177,7 +2198,7 @@ pub fn aimed_slot(rng: &mut Rng, aim: u32) -> Call {
     if faults.contains(&2) {
         wrong_length(rng, &mut call.image);
     }
-    call.words = if faults.contains(&1) { break_state(rng, &state) } else { pack_state(&state).to_vec() };
+    call.words = if faults.contains(&1) { break_state(rng, &state) } else { state_block(rng, &state) };
     call.expected = Some(aim);
     call
 }

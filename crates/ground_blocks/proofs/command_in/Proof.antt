@@ -1,8 +1,6 @@
 -- `ground_blocks::command_in` meets its contract.
 -- Assumes nothing.
-use native.Mathlib.Omega.{arith}
 use borrow.Author.Tests.{ne-eqb}
-use Rattle.ground_blocks.proofs.Codes.{code-is, code-other}
 use Rattle.ground_blocks.specs.Fields.{commandIn}
 use borrow.Author.Needs.{needs}
 use Rattle.ground_blocks.proofs.command_in.Statement.{statement}
@@ -10,9 +8,6 @@ use Rattle.ground_blocks.proofs.command_in.Tie as tie
 
 word-at-requires : tie.Need-word-at-requires
 word-at-requires c κs = search needs
-
-at-most-8-requires : tie.Need-at-most-8-requires
-at-most-8-requires c κs = search needs
 
 request-in-requires : tie.Need-request-in-requires
 request-in-requires c κs = search needs
@@ -29,76 +24,54 @@ at-most-16-requires c κs = search needs
 word-at-requires-3 : tie.Need-word-at-requires-3
 word-at-requires-3 c κs = search needs
 
-at-most-8-requires-2 : tie.Need-at-most-8-requires-2
-at-most-8-requires-2 c κs = search needs
+at-most-8-requires : tie.Need-at-most-8-requires
+at-most-8-requires c κs = search needs
 
 symbol-request-in-requires : tie.Need-symbol-request-in-requires
 symbol-request-in-requires c κs = search needs
 
 returns : tie.Need-returns
 unfolding commandIn
-returns c =
-    let code = c .before .before in
-    rw (← code .before .word-at .ensures, code-is _ (code .at-most-8 .ensures) 0 (omega arith) (c .before .match .keys1), c .request-in .ensures)
+returns c = rw (← c .before .before .word-at .ensures, c .before .match .keys1, c .request-in .ensures)
 
 returns-2 : tie.Need-returns-2
 unfolding commandIn
-returns-2 c =
-    let code = c .before in
-    rw (← code .before .word-at .ensures, code-is _ (code .at-most-8 .ensures) 1 (omega arith) (c .match .keys2))
+returns-2 c = rw (← c .before .word-at .ensures, c .match .keys2)
 
 returns-3 : tie.Need-returns-3
 unfolding commandIn
-returns-3 c =
-    let code = c .before .before in
-    rw (← code .before .word-at .ensures, code-is _ (code .at-most-8 .ensures) 4 (omega arith) (c .before .match .keys3), c .request-in2 .ensures)
+returns-3 c = rw (← c .before .before .word-at .ensures, c .before .match .keys3, c .request-in2 .ensures)
 
 returns-4 : tie.Need-returns-4
 unfolding commandIn
-returns-4 c =
-    let code = c .before .before .before in
-    rw (← code .before .word-at .ensures, code-is _ (code .at-most-8 .ensures) 7 (omega arith) (c .before .before .match .keys4), c .at-most-16 .ensures, c .before .word-at2 .ensures)
+returns-4 c = rw (← c .before .before .before .word-at .ensures, c .before .before .match .keys4, c .at-most-16 .ensures, c .before .word-at2 .ensures)
 
 returns-5 : tie.Need-returns-5
 unfolding commandIn
-returns-5 c =
-    let code = c .before .before .before in
-    rw (← code .before .word-at .ensures, code-is _ (code .at-most-8 .ensures) 8 (omega arith) (c .before .before .match .keys5), c .at-most-82 .ensures, c .before .word-at3 .ensures)
+returns-5 c = rw (← c .before .before .before .word-at .ensures, c .before .before .match .keys5, c .at-most-8 .ensures, c .before .word-at3 .ensures)
 
 returns-6 : tie.Need-returns-6
 unfolding commandIn
-returns-6 c =
-    let code = c .before .before in
-    rw (← code .before .word-at .ensures, code-is _ (code .at-most-8 .ensures) 9 (omega arith) (c .before .match .keys6), c .symbol-request-in .ensures)
+returns-6 c = rw (← c .before .before .word-at .ensures, c .before .match .keys6, c .symbol-request-in .ensures)
 
 returns-7 : tie.Need-returns-7
 unfolding commandIn
 returns-7 c =
-    let code = c .before in
-    let other = code-other (code .before .word-at .result) (code .at-most-8 .ensures) in
+    let w = c .before .word-at .ensures in
     let r = c .match .rest in
-    rw (
-      ← code .before .word-at .ensures,
-      ne-eqb _ 0 (other 0 (omega arith) (r .0 .0 .0 .0 .0 .1)),
-      ne-eqb _ 1 (other 1 (omega arith) (r .0 .0 .0 .0 .1)),
-      ne-eqb _ 4 (other 4 (omega arith) (r .0 .0 .0 .1)),
-      ne-eqb _ 7 (other 7 (omega arith) (r .0 .0 .1)),
-      ne-eqb _ 8 (other 8 (omega arith) (r .0 .1)),
-      ne-eqb _ 9 (other 9 (omega arith) (r .1)),
-    )
+    rw (← w, ne-eqb _ 0 (r .0 .0 .0 .0 .0 .1), ne-eqb _ 1 (r .0 .0 .0 .0 .1), ne-eqb _ 4 (r .0 .0 .0 .1), ne-eqb _ 7 (r .0 .0 .1), ne-eqb _ 8 (r .0 .1), ne-eqb _ 9 (r .1))
 
 pub command-in-spec : {M : Type 1} → statement M
 command-in-spec =
     tie.close
     (tie.spec
     word-at-requires
-    at-most-8-requires
     request-in-requires
     request-in-requires-2
     word-at-requires-2
     at-most-16-requires
     word-at-requires-3
-    at-most-8-requires-2
+    at-most-8-requires
     symbol-request-in-requires
     returns
     returns-2

@@ -13,10 +13,10 @@ use Rattle.lent_regions.proofs.rights_bounds.Statement.{statement}
 use Rattle.lent_regions.proofs.rights_bounds.Tie as tie
 
 abbrev Inv-loop : tie.InvT-loop
-Inv-loop rs m all₀ i₀ all i = (i ≤ m) × (all ≡ allBelow (λ (k : ℕ). leb (word rs (0 + 3 * k + 2)) 3) i)
+Inv-loop rs n m all₀ i₀ all i = (i ≤ m) × (all ≡ allBelow (λ (k : ℕ). leb (word rs (0 + 3 * k + 2)) 3) i)
 
 abbrev μ-loop : tie.MeasureT-loop
-μ-loop rs m all₀ i₀ all i = m - i
+μ-loop rs n m all₀ i₀ all i = m - i
 
 entries-requires : tie.Need-entries-requires Inv-loop μ-loop
 entries-requires c κs = search needs
@@ -52,7 +52,8 @@ loop-again c =
 returns : tie.Need-returns Inv-loop μ-loop
 returns c =
     let l = c .before in
-    l .loop .inv .1 ∙ rights-all (l .before .before .before .args .rs .now) _ (l .before .entries .ensures) (l .loop .i) (l .loop .inv .0) (c .loop-test .left)
+    let a = l .before .before .before .args in
+    l .loop .inv .1 ∙ rights-all (a .rs .now) (a .n) _ (l .loop .i) (l .before .entries .ensures) (l .loop .inv .0) (c .loop-test .left)
 
 pub rights-bounds-spec : {M : Type 1} → statement M
 rights-bounds-spec =
