@@ -1,3 +1,4 @@
+pub mod Refused
 pub mod Used
 pub mod Unused
 pub mod Computed

@@ -20,4 +20,4 @@ use Rattle.rules.specs.NumberExamples.{NumberExamples}
 pub number-examples : NumberExamples
 unfolding splice wordBytes wordsAt xorAll tableRules inOneRegion wordsBelow regionOf imageIndex wordsOf startRules entriesUsed startUp pieceWords dumpRules placesRules countRules goodState lowest lentRows wellFormed decode nameIn fieldRules zeroRules sealed commandBytes blocksFrom replyBytes task anyWith anyIdle commandRows firstIdle firstWith commandCall anyBusy slotRows nextPlace nextWords packetBytes afterPacket slotCall accepts cancels writes counts headerRules writerRows writeCommand readerRows readCommand cutRules packetRows readPacket symbolTable resolvedBy hasName recordOf valueOf valueBytes
 number-examples =
-    record { one-fault = refl; one-fault-counted = refl; headers = refl; lent = refl; lent-counted = refl; slot-short = refl; reader = refl; reader-headers = refl; packet-layout = refl; packet-cut = refl; pools-overlap = refl; eleven = refl; seven = refl; value = refl; seen-numbers = refl; seen-accepts = refl; seen-cancels = refl; seen-writes = refl; seen-others = refl; seen-packets = refl; seen-slots = refl }
+    record { one-fault = refl; one-fault-counted = refl; in-order = refl; in-order-counted = refl; headers = refl; lent = refl; lent-counted = refl; slot-short = refl; reader = refl; reader-headers = refl; packet-layout = refl; packet-cut = refl; pools-overlap = refl; eleven = refl; seven = refl; value = refl; seen-numbers = refl; seen-accepts = refl; seen-cancels = refl; seen-writes = refl; seen-others = refl; seen-packets = refl; seen-slots = refl }

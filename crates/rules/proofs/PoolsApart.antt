@@ -1,14 +1,17 @@
--- Start-up and the good state judge each pool as if the other were none, and ask no right of a region but the dump right where a pool lies.
+-- Start-up and the good state judge each pool as if the other were none, and ask no right of a region but the dump right where a pool or a busy dump lies.
 -- Assumes nothing.
 use mathlib.Core.Path.{_≡_, refl, _∙_}
 use mathlib.Core.Logic.{_≢_, _↔_, _⊎_, inl, inr, ⊎-map}
 use mathlib.Core.Bool.{true}
 use mathlib.Core.List.{List, [], _∷_}
 use Prim.Native.Nat.{ℕ, suc, _<_}
+use native.Mathlib.Omega.{arith}
 use Rattle.rules.specs.Regions.{regionAt}
-use Rattle.rules.specs.States.{goodState}
-use Rattle.rules.specs.GoodWhen.{LiesIn, DumpableIn, GoodRegion, GoodPool, GoodStart, Good}
-use Rattle.rules.specs.PoolsApart.{noPool, Starts, NotIn, OtherRights, withPools, PoolsApart}
+use Rattle.rules.specs.States.{poolAt, contextAt, goodState}
+use Rattle.rules.specs.GoodWhen.{LiesIn, DumpableIn, GoodRegion, GoodPool, GoodStart, GoodDump, Good}
+use Rattle.rules.specs.PoolsApart.{noPool, Starts, NotIn, OtherRights, withPools, withRegions, RightsFor, PoolsApart}
+use Rattle.rules.specs.declared.ActiveDump.{ActiveDump}
+use Rattle.rules.specs.declared.Context.the-variants.{Busy}
 use Rattle.rules.specs.declared.Range.{Range}
 use Rattle.rules.specs.declared.Region.{Region}
 use Rattle.rules.specs.declared.State.{State}
@@ -131,5 +134,56 @@ module _ (s : State) where
         good-when _ .1 (still-good _ g (each-good _ _ p q _ .1 (g .start, good-when _ .0 (h .1) .start))),
   )
 
+-- a good state with other rights where no pool and no busy dump lies is good
+module _ (s : State) (other : List Region) (o : RightsFor s other) where
+  abbrev rs : List Region
+  rs = s .regions
+
+  abbrev n : ℕ
+  n = s .count
+
+  start-still : GoodStart rs n (s .pools) (s .unit) → GoodStart other n (s .pools) (s .unit)
+  start-still g =
+      record {
+        some = g .some;
+        sixteen = g .sixteen;
+        regions = λ i l. same-region rs other n (o .ranges) i (g .regions i l);
+        first = same-pool rs other n (o .ranges) (poolAt (s .pools) 0) (λ i l. ⊎-map (λ e. e) (λ out. out .0) (o .rights i l)) (g .first);
+        second = same-pool rs other n (o .ranges) (poolAt (s .pools) 1) (λ i l. ⊎-map (λ e. e) (λ out. out .1) (o .rights i l)) (g .second);
+        unit-fits = g .unit-fits;
+      }
+
+  -- a busy dump still lies in a region with dump right
+  dump-still : (j : ℕ) (d : ActiveDump) → contextAt (s .places) j ≡ Busy d → GoodDump rs n d → GoodDump other n d
+  dump-still j d e g =
+      record {
+        number = g .number;
+        some = g .some;
+        most = g .most;
+        aligned = g .aligned;
+        region =
+            still-dumpable rs other n (o .ranges) (d .range) (λ i l. ⊎-map (λ e. e) (λ out some lies. out .2 j d e lies) (o .rights i l))
+            (λ z. let k = g .some in omega arith) (g .region);
+        cut = g .cut;
+        below = g .below;
+      }
+
+  rights-good : goodState s ≡ true → goodState (withRegions s other) ≡ true
+  rights-good h =
+      let g = good-when s .0 h in
+      good-when (withRegions s other) .1
+      (record {
+        start = start-still (g .start);
+        last = g .last;
+        replies = g .replies;
+        values = g .values;
+        packets = g .packets;
+        accepted = g .accepted;
+        refused = g .refused;
+        four = g .four;
+        dumps = λ i d l e. dump-still i d e (g .dumps i d l e);
+        apart = g .apart;
+      })
+
 pub apart : PoolsApart
-apart = record { each = each; order = order; rights = λ rs other n p q unit o. rights rs other n p q o unit; good = good }
+apart = record { each = each; order = order; rights = λ rs other n p q unit o. rights rs other n p q o unit; good = good; good-rights = rights-good }

@@ -6,10 +6,13 @@ use mathlib.Core.List.{List, [], _∷_, _++_, map}
 use Prim.Native.Nat.{ℕ}
 use lib.ListN.{length, set, take, drop, replicate}
 use Rattle.rules.specs.Ground.{readCommand, readingNumber, readPacket, packetNumber}
-use Rattle.rules.specs.Demand3.{Call, command, slot, Event, events, accepts, cancels, writes, packets, slots}
+use Rattle.rules.specs.Demand3.{Call, command, slot, Event, events, accepts, cancels, writes, packets, packetIn, slots}
 use Rattle.rules.specs.Results.{verdictNumber}
 use Rattle.rules.specs.States.{startUp}
-use Rattle.rules.specs.Examples.{range, both, fresh, send, slotAt, numbers, images, written, usual, four}
+use Rattle.rules.specs.FurtherExamples.{region, cancel}
+use Rattle.rules.specs.Packets.{commandBytes}
+use Rattle.rules.specs.Examples.{range, both, box, fresh, header, dump, send, slotAt, numbers, images, written, usual, four}
+use Rattle.rules.specs.declared.Command.the-variants.{PoolStatistics}
 use Rattle.rules.specs.declared.State.{State}
 
 -- COMMAND PACKETS: E1's dump, and with one thing changed and the check byte right
@@ -150,6 +153,17 @@ boxOfEleven = fresh (both 0x1000 11 ∷ [])
 abbrev pub inTurn : List ℕ
 inTurn = 0x01010101 ∷ 0x02020202 ∷ 0x03030303 ∷ 0x04040404 ∷ 0x05050505 ∷ 0x06060606 ∷ 0x07070707 ∷ []
 
+-- a box with a region of four words with both rights, all of it pool 1, which is damaged, and one of two words with load right alone: 9, 10, 11, a dump, 12, three
+-- dumps, 13, 14, 15 and 19
+abbrev pub crowded : State
+crowded = box (both 0x1000 4 ∷ region 0x2000 2 true false ∷ []) (range 0x1000 4)
+
+abbrev pub inOrder : List Call
+inOrder =
+    map (send (replicate 6 0))
+    (dump 1 1 0x1002 ∷ dump 1 1 0x3000 ∷ dump 1 1 0x2000 ∷ dump 1 1 0x1000 ∷ dump 1 1 0x1000 ∷ dump 2 1 0x1000 ∷ dump 3 1 0x1000 ∷ dump 4 1 0x1000
+    ∷ dump 5 1 0x1000 ∷ cancel 9 ∷ commandBytes (header 0 1) (PoolStatistics 1) [] ∷ dump 5 5 0x1000 ∷ [])
+
 -- A LIST OF CALLS as demand 3 reads it: a dump with number 123 hex, a slot with a short buffer, one with a short image, one that sends it; the dump again, its
 -- cancel, a slot, and the dump a third time with a slot
 abbrev pub calls : List Call
@@ -166,6 +180,9 @@ pub record NumberExamples : Type 0 where
       ≡ 4 ∷ 5 ∷ 6 ∷ 6 ∷ 7 ∷ 7 ∷ 8 ∷ 0 ∷ []
   pub one-fault-counted : refusedIn usual (sendAll (wrongCheck ∷ otherApid ∷ unknownCode ∷ highestCode ∷ oneByteLess ∷ oneByteMore ∷ otherUnit ∷ accepted ∷ []))
       ≡ 1 ∷ 1 ∷ 2 ∷ 3 ∷ 4 ∷ 5 ∷ 5 ∷ 5 ∷ []
+  -- 9 to 15 and 19 are counted, one each
+  pub in-order : numbers crowded inOrder ≡ 9 ∷ 10 ∷ 11 ∷ 0 ∷ 12 ∷ 0 ∷ 0 ∷ 0 ∷ 13 ∷ 14 ∷ 15 ∷ 19 ∷ []
+  pub in-order-counted : refusedIn crowded inOrder ≡ 1 ∷ 2 ∷ 3 ∷ 3 ∷ 4 ∷ 4 ∷ 4 ∷ 4 ∷ 5 ∷ 6 ∷ 7 ∷ 8 ∷ []
   -- each part of the header that 4 names, and a packet of seven bytes
   pub headers : numbers usual (sendAll (versionOne ∷ typeZero ∷ noSecondHeader ∷ flagsTwo ∷ zeroBitSet ∷ fieldOneMore ∷ take 7 accepted ∷ []))
       ≡ 4 ∷ 4 ∷ 4 ∷ 4 ∷ 4 ∷ 4 ∷ 4 ∷ []
@@ -205,5 +222,5 @@ pub record NumberExamples : Type 0 where
   pub seen-cancels : map (cancels 0x123) seen ≡ false ∷ false ∷ false ∷ false ∷ false ∷ true ∷ false ∷ false ∷ false ∷ []
   pub seen-writes : map (writes 0x123) seen ≡ false ∷ false ∷ false ∷ true ∷ false ∷ false ∷ false ∷ false ∷ true ∷ []
   pub seen-others : map (accepts 0x124) seen ++ map (cancels 0x122) seen ++ map (writes 0x023) seen ≡ replicate 27 false
-  pub seen-packets : length (packets 0x123 (drop 1 seen)) ≡ 1
+  pub seen-packets : map packetIn (packets 0x123 (drop 1 seen)) ≡ set dumpPacket 11 3 ∷ []
   pub seen-slots : map (λ n. length (slots (take n seen))) (1 ∷ 2 ∷ 3 ∷ 4 ∷ 6 ∷ 7 ∷ 9 ∷ []) ≡ 0 ∷ 0 ∷ 0 ∷ 1 ∷ 1 ∷ 2 ∷ 3 ∷ []

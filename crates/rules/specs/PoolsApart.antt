@@ -1,5 +1,5 @@
--- POOLS APART: start-up and the good state judge each pool as if the other were none, so that pools may overlap or be the same; and start-up asks no right of
--- a region but the dump right where a pool lies (paper 01, "Regions and image").
+-- POOLS APART: start-up and the good state judge each pool as if the other were none, so that pools may overlap or be the same; and they ask no right of a
+-- region but the dump right where a pool or, of a state, a busy dump lies (paper 01, "Regions and image").
 use mathlib.Core.Path.{_≡_}
 use mathlib.Core.Logic.{_≢_, _↔_, _⊎_}
 use mathlib.Core.Bool.{true}
@@ -8,7 +8,9 @@ use Prim.Native.Nat.{ℕ, _<_}
 use Rattle.rules.specs.Regions.{regionAt}
 use Rattle.rules.specs.GoodWhen.{LiesIn}
 use Rattle.rules.specs.Results.{verdictNumber}
-use Rattle.rules.specs.States.{startUp, goodState}
+use Rattle.rules.specs.States.{startUp, poolAt, contextAt, goodState}
+use Rattle.rules.specs.declared.ActiveDump.{ActiveDump}
+use Rattle.rules.specs.declared.Context.the-variants.{Busy}
 use Rattle.rules.specs.declared.Range.{Range}
 use Rattle.rules.specs.declared.Region.{Region}
 use Rattle.rules.specs.declared.State.{State}
@@ -47,6 +49,34 @@ withPools s pools =
       refused = s .refused;
     }
 
+-- a state with these regions, and all else as it is
+abbrev pub withRegions : State → List Region → State
+withRegions s rs =
+    record {
+      regions = rs;
+      count = s .count;
+      pools = s .pools;
+      unit = s .unit;
+      places = s .places;
+      last = s .last;
+      replies = s .replies;
+      values = s .values;
+      packets = s .packets;
+      accepted = s .accepted;
+      refused = s .refused;
+    }
+
+-- no busy dump lies in region i
+abbrev pub NoDumpIn : State → ℕ → Type 0
+NoDumpIn s i = (j : ℕ) (d : ActiveDump) → contextAt (s .places) j ≡ Busy d → LiesIn (λ (g : Region). true) (s .regions) (s .count) (d .range) i → ⊥
+
+-- a table with the same ranges, and the same dump right of each region in use where a pool or a busy dump lies
+pub record RightsFor (s : State) (other : List Region) : Type 0 where
+  pub ranges : (i : ℕ) → regionAt other i .range ≡ regionAt (s .regions) i .range
+  pub rights : (i : ℕ) → i < s .count
+      → (regionAt other i .dump ≡ regionAt (s .regions) i .dump)
+      ⊎ (NotIn (s .regions) (s .count) (poolAt (s .pools) 0) i × NotIn (s .regions) (s .count) (poolAt (s .pools) 1) i × NoDumpIn s i)
+
 pub record PoolsApart : Type 0 where
   -- start-up takes two pools exactly if it takes each alone
   pub each : (rs : List Region) (n : ℕ) (p q : Range) (unit : ℕ)
@@ -56,7 +86,9 @@ pub record PoolsApart : Type 0 where
   -- whatever rights regions have where no pool lies
   pub rights : (rs other : List Region) (n : ℕ) (p q : Range) (unit : ℕ) → OtherRights rs other n p q
       → Starts rs n (p ∷ q ∷ []) unit → Starts other n (p ∷ q ∷ []) unit
-  -- and so the good state
+  -- the good state takes two pools exactly if it takes each alone
   pub good : (s : State) (p q : Range)
       → (goodState (withPools s (p ∷ q ∷ [])) ≡ true)
       ↔ ((goodState (withPools s (p ∷ noPool ∷ [])) ≡ true) × (goodState (withPools s (noPool ∷ q ∷ [])) ≡ true))
+  -- and whatever rights regions have where no pool and no busy dump lies
+  pub good-rights : (s : State) (other : List Region) → RightsFor s other → goodState s ≡ true → goodState (withRegions s other) ≡ true
