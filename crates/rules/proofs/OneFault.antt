@@ -24,7 +24,7 @@ use Rattle.rules.specs.Cases.{TelemetryFormed}
 use Rattle.rules.specs.Commands.{CommandArgs, Outcome, isUnknown, wrongLength, commandRows, refusedCommand, conclude, commandCall}
 use Rattle.rules.specs.Slots.{dumpApid, packetHeader}
 use Rattle.rules.specs.Ground.{unreadable, readerRows, readingNumber, fieldsRead, concludeRead, readCommand, packetFields, packetRows, packetNumber, concludePacket, readPacket}
-use Rattle.rules.specs.OneFault.{OtherApid, OtherCode, OtherLength, OtherUnit, Same, HeaderSpoiled, callWith, Gets, CommandFault, numberRead, ReaderFault, numberGiven, TelemetrySpoiled, ButFour, PacketFault, OneFault}
+use Rattle.rules.specs.OneFault.{OtherApid, OtherCode, OtherLength, OtherUnit, Same, LayoutSpoiled, callWith, Gets, CommandFault, numberRead, ReaderFault, numberGiven, TelemetrySpoiled, ButFour, PacketFault, OneFault}
 use Rattle.rules.specs.declared.Command.{Command}
 use Rattle.rules.specs.declared.Command.the-variants.{Dump, Cancel, Load, PoolStatistics, SymbolValue, DumpSymbol}
 use Rattle.rules.specs.declared.Decoded.{Decoded}
@@ -240,13 +240,15 @@ module _ (p : List ℕ) (b : AreBytes p) where
       })
 
 -- a spoiled header does not pass
-spoiled : (p : List ℕ) → HeaderSpoiled p → Shaped p → ⊥
-spoiled p (inl n) s = let e = s .frame .head in n (omega arith)
+spoiled : (p : List ℕ) → LayoutSpoiled p → Shaped p → ⊥
+spoiled p (inl l) s = let m = s .frame .bytes in omega arith
 spoiled p (inr (inl n)) s = let e = s .frame .head in n (omega arith)
 spoiled p (inr (inr (inl n))) s = let e = s .frame .head in n (omega arith)
-spoiled p (inr (inr (inr (inl n)))) s = n (s .frame .flags)
-spoiled p (inr (inr (inr (inr (inl n))))) s = n (s .zero-bit)
-spoiled p (inr (inr (inr (inr (inr n))))) s = n (s .frame .field)
+spoiled p (inr (inr (inr (inl n)))) s = let e = s .frame .head in n (omega arith)
+spoiled p (inr (inr (inr (inr (inl n))))) s = n (s .frame .flags)
+spoiled p (inr (inr (inr (inr (inr (inl n)))))) s = n (s .zero-bit)
+spoiled p (inr (inr (inr (inr (inr (inr (inl n))))))) s = n (s .frame .field)
+spoiled p (inr (inr (inr (inr (inr (inr (inr n))))))) s = n (s .check)
 
 -- THE TESTS OF A COMMAND PACKET that the command call and the command reader share, and the rows after them
 

@@ -43,10 +43,12 @@ pub record OtherUnit (p q : List ℕ) : Type 0 where
 abbrev pub Same : List ℕ → List ℕ → ℕ → Type 0
 Same p q i = i < length p → i < length q → byte q i ≡ byte p i
 
--- A COMMAND'S HEADER SPOILED, whatever else the packet holds: version, type, second-header flag, sequence flags, zero bit, length field
-abbrev pub HeaderSpoiled : List ℕ → Type 0
-HeaderSpoiled q =
-    (byte q 0 / 32 ≢ 0) ⊎ (byte q 0 / 16 % 2 ≢ 1) ⊎ (byte q 0 / 8 % 2 ≢ 1) ⊎ (byte q 2 / 64 ≢ 3) ⊎ (byte q 6 / 128 ≢ 0) ⊎ (two q 4 + 7 ≢ length q)
+-- A COMMAND'S LAYOUT SPOILED, whatever else the packet holds: under 8 bytes; version, type, second-header flag, sequence flags, zero bit, length field; check byte
+abbrev pub LayoutSpoiled : List ℕ → Type 0
+LayoutSpoiled q =
+    (length q < 8) ⊎ (byte q 0 / 32 ≢ 0) ⊎ (byte q 0 / 16 % 2 ≢ 1) ⊎ (byte q 0 / 8 % 2 ≢ 1) ⊎ (byte q 2 / 64 ≢ 3) ⊎ (byte q 6 / 128 ≢ 0)
+    ⊎ (two q 4 + 7 ≢ length q)
+    ⊎ (xorAll q ≢ 255)
 
 -- THE COMMAND CALL
 
@@ -74,7 +76,7 @@ pub record CommandFault (s : State) (c : CommandArgs) (q : List ℕ) : Type 0 wh
   pub unit : OtherUnit (c .packet) q → ((i : ℕ) → i ≢ 7 → i ≢ 8 → Same (c .packet) q i) → xorAll q ≡ 255 → Gets s c q 8 s
   -- the check byte alone changed
   pub check : length q ≡ length (c .packet) → byte q 7 ≢ byte (c .packet) 7 → ((i : ℕ) → i ≢ 7 → Same (c .packet) q i) → Gets s c q 4 (refusedOnce s)
-  pub header : HeaderSpoiled q → Gets s c q 4 (refusedOnce s)
+  pub header : LayoutSpoiled q → Gets s c q 4 (refusedOnce s)
 
 -- THE COMMAND READER, of a packet p that it reads: another unit is no fault there
 abbrev pub numberRead : List ℕ → ℕ
@@ -86,7 +88,7 @@ pub record ReaderFault (p q : List ℕ) : Type 0 where
   pub bytes : OtherLength p q → ((i : ℕ) → i ≢ 4 → i ≢ 5 → i ≢ 7 → Same p q i) → xorAll q ≡ 255 → numberRead q ≡ 7
   pub unit : OtherUnit p q → ((i : ℕ) → i ≢ 7 → i ≢ 8 → Same p q i) → xorAll q ≡ 255 → numberRead q ≡ 0
   pub check : length q ≡ length p → byte q 7 ≢ byte p 7 → ((i : ℕ) → i ≢ 7 → Same p q i) → numberRead q ≡ 4
-  pub header : HeaderSpoiled q → numberRead q ≡ 4
+  pub header : LayoutSpoiled q → numberRead q ≡ 4
 
 -- THE DUMP PACKET READER, of a packet p that it accepts
 

@@ -2,6 +2,7 @@
 ghost use Rattle.rules.specs.Examples.{Examples};
 ghost use Rattle.rules.specs.FurtherExamples.{FurtherExamples};
 ghost use Rattle.rules.specs.NumberExamples.{NumberExamples};
+ghost use Rattle.rules.specs.EdgeExamples.{EdgeExamples};
 ghost use Rattle.rules.specs.BoundExamples.{BoundExamples};
 ghost use Rattle.rules.specs.SymbolExamples.{SymbolExamples};
 ghost use Rattle.rules.specs.Demand1.{Demand1};
@@ -218,6 +219,11 @@ pub fn further_cases()
 // Every number that those leave out, on literal bytes, with the refused count.
 pub fn number_examples()
     ensures { λ r. ⌜ NumberExamples ⌝ }
+{}
+
+// Where rules meet: two faults at once, what stays of lent buffers and states, what the paper allows in so many words.
+pub fn edge_examples()
+    ensures { λ r. ⌜ EdgeExamples ⌝ }
 {}
 
 // Start-up, good states, counts and places at each of their bounds and one past it.
