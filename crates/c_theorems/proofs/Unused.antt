@@ -11,6 +11,7 @@ use lib.Seq.{drop-append-seam}
 use Rattle.lists.specs.Splice.{splice}
 use Rattle.lists.proofs.Below.{all-of}
 use Rattle.lists.proofs.Splice.{splice-length, splice-below, splice-above}
+use Rattle.rules.specs.PoolsApart.{withRegions}
 use Rattle.rules.specs.Commands.{CommandArgs, Outcome, commandCall}
 use Rattle.rules.specs.Regions.{noRegion, regionAt}
 use Rattle.rules.specs.Slots.{SlotArgs, slotCall}
@@ -27,7 +28,7 @@ use Rattle.block.proofs.Runs.{runs-length, runs-same, list-at}
 use Rattle.block.proofs.Words.{region-word}
 use Rattle.block.proofs.Writes.{front-written}
 use Rattle.c_theorems.specs.FromC.{withUnused, leavesWith}
-use Rattle.c_theorems.proofs.Used.{withRegions, onRegions, command-same, slot-same, slot-kept}
+use Rattle.c_theorems.proofs.Used.{onRegions, command-same, slot-same, slot-kept}
 
 -- all that comes after the regions is as with other regions
 rest-same : (s : State) (qs : List Region) (k : ℕ) → 49 ≤ k → word (blockOf s) k ≡ word (blockOf (withRegions s qs)) k

@@ -14,6 +14,7 @@ use Rattle.lists.proofs.Tests.{either}
 use Rattle.rules.specs.Commands.{CommandArgs, Outcome, commandCall}
 use Rattle.rules.specs.Packets.{commandTransaction}
 use Rattle.rules.specs.Regions.{startOf, endOf, aligned, within, noRegion, regionAt, rangeAt, endBefore, regionRules, tableRules, anyRight, dumpRight, holds, inOneRegion, firstOf, startsInside, wordsBelow, regionOf}
+use Rattle.rules.specs.PoolsApart.{withRegions}
 use Rattle.rules.specs.Results.{counted}
 use Rattle.rules.specs.Slots.{SlotArgs, slotCall}
 use Rattle.rules.specs.States.{poolAt, poolRules, startRules, entriesUsed, startUp, dumpRules, contextAt, contextRules, placeRules, placesRules, countRules, goodState}
@@ -153,22 +154,6 @@ module _ (rs qs : List Region) (n : ℕ) (same : (i : ℕ) → i < n → regionA
       (λ e. rw (start-same rs qs n same ps unit, e))
 
 -- A STATE with other regions past those in use
-
-abbrev pub withRegions : State → List Region → State
-withRegions s qs =
-    record {
-      regions = qs;
-      count = s .count;
-      pools = s .pools;
-      unit = s .unit;
-      places = s .places;
-      last = s .last;
-      replies = s .replies;
-      values = s .values;
-      packets = s .packets;
-      accepted = s .accepted;
-      refused = s .refused;
-    }
 
 abbrev pub onRegions : List Region → Outcome → Outcome
 onRegions qs o = record { answer = o .answer; state = withRegions (o .state) qs; image = o .image; buffer = o .buffer }
