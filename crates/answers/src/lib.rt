@@ -1,6 +1,6 @@
 // The answer record of an item of a batch, and a lent list of such records.
 ghost use Rattle.std.specs.Prelude.{◌≡◌, ◌≤◌, min, length, get_or};
-ghost use Rattle.answers.specs.Records.{answersOf, recordAt, putRecords};
+ghost use Rattle.answers.specs.Records.{answers_of, record_at, put_records};
 
 // What an item got: its number, and the length of its reply.
 #[repr(C)]
@@ -34,7 +34,7 @@ fn entry(bytes: &[u8], i: usize) -> u32
 
 // Record i of these numbers and lengths; past their end, zeros.
 fn record_at(numbers: &[u8], lengths: &[u8], i: usize) -> ItemAnswer
-    ensures { result ≡ recordAt (answersOf numbers.now lengths.now) i }
+    ensures { result ≡ record_at (answers_of numbers.now lengths.now) i }
 {
     let number = entry(numbers, i);
     let length = entry(lengths, i);
@@ -61,7 +61,7 @@ pub fn written(a: Answered, room: usize) -> usize
 // The first n records of a lent list.
 fn put_first(answers: &mut [ItemAnswer], numbers: &[u8], lengths: &[u8], n: usize)
     requires { n ≤ length answers.old }
-    ensures { answers.new ≡ putRecords answers.old (answersOf numbers.now lengths.now) n }
+    ensures { answers.new ≡ put_records answers.old (answers_of numbers.now lengths.now) n }
 {
     let mut i: usize = 0;
     while i < n {
@@ -73,7 +73,7 @@ fn put_first(answers: &mut [ItemAnswer], numbers: &[u8], lengths: &[u8], n: usiz
 
 // The first records of a lent list. The numbers and the lengths are copied once, and not for each record.
 pub fn put_records(answers: &mut [ItemAnswer], a: Answered)
-    ensures { answers.new ≡ putRecords answers.old a (min a.filled (length answers.old)) }
+    ensures { answers.new ≡ put_records answers.old a (min a.filled (length answers.old)) }
 {
     let n = written(a, answers.len());
     let numbers = a.numbers;

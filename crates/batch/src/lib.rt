@@ -1,8 +1,8 @@
 // Many commands in one call on a State (paper 02, A1): the single calls in order.
 ghost use Rattle.std.specs.Prelude.{◌≡◌, false, ◌+◌, ◌*◌, ◌≤◌, ◌<◌, min, length, set, take, drop};
 ghost use Rattle.lists.specs.Splice.{splice};
-ghost use Rattle.rules.specs.Results.{verdictNumber};
-ghost use Rattle.batches.specs.Batch.{lends, onState, unfitBy, leftBy, batch, LeftAs, filled, numbersOf, lengthsOf, Answers};
+ghost use Rattle.rules.specs.Results.{verdict_number};
+ghost use Rattle.batches.specs.Batch.{lends, on_state, unfit_by, left_by, batch, LeftAs, filled, numbers_of, lengths_of, Answers};
 
 use answers::{Answered, ItemAnswer, put_records};
 use batches::{BatchReturned, batch_verdict, bytes_from, lesser};
@@ -29,11 +29,11 @@ fn item(
     i: usize,
 ) -> State
     requires { (32 * i + 32 ≤ length replies.old) × (i < length numbers.old) × (i < length sizes.old) }
-    ensures { (result ≡ (onState s (record { packet = packet.entry.now; symbols = symbols.now; image = image.old; reply = take 32 (drop (32 * i) replies.old) })).state)
-        × (image.new ≡ (onState s (record { packet = packet.entry.now; symbols = symbols.now; image = image.old; reply = take 32 (drop (32 * i) replies.old) })).image)
-        × (replies.new ≡ splice replies.old (32 * i) (onState s (record { packet = packet.entry.now; symbols = symbols.now; image = image.old; reply = take 32 (drop (32 * i) replies.old) })).reply)
-        × (numbers.new ≡ set numbers.old i (onState s (record { packet = packet.entry.now; symbols = symbols.now; image = image.old; reply = take 32 (drop (32 * i) replies.old) })).number)
-        × (sizes.new ≡ set sizes.old i (onState s (record { packet = packet.entry.now; symbols = symbols.now; image = image.old; reply = take 32 (drop (32 * i) replies.old) })).length) }
+    ensures { (result ≡ (on_state s (record { packet = packet.entry.now; symbols = symbols.now; image = image.old; reply = take 32 (drop (32 * i) replies.old) })).state)
+        × (image.new ≡ (on_state s (record { packet = packet.entry.now; symbols = symbols.now; image = image.old; reply = take 32 (drop (32 * i) replies.old) })).image)
+        × (replies.new ≡ splice replies.old (32 * i) (on_state s (record { packet = packet.entry.now; symbols = symbols.now; image = image.old; reply = take 32 (drop (32 * i) replies.old) })).reply)
+        × (numbers.new ≡ set numbers.old i (on_state s (record { packet = packet.entry.now; symbols = symbols.now; image = image.old; reply = take 32 (drop (32 * i) replies.old) })).number)
+        × (sizes.new ≡ set sizes.old i (on_state s (record { packet = packet.entry.now; symbols = symbols.now; image = image.old; reply = take 32 (drop (32 * i) replies.old) })).length) }
 {
     let from = 32 * i;
     let end = from + 32;
@@ -56,12 +56,12 @@ fn run(
     numbers: &mut [u8],
     sizes: &mut [u8],
 ) -> State
-    requires { unfitBy (length starts.now) (length lengths.now) (min (length numbers.old) (length sizes.old)) (length replies.old) ≡ false }
-    ensures { (result ≡ (leftBy onState (lends bytes.now starts.now lengths.now symbols.now image.old replies.old) s (length starts.now)).state)
-        × (image.new ≡ (leftBy onState (lends bytes.now starts.now lengths.now symbols.now image.old replies.old) s (length starts.now)).image)
-        × (replies.new ≡ (leftBy onState (lends bytes.now starts.now lengths.now symbols.now image.old replies.old) s (length starts.now)).replies)
-        × (numbers.new ≡ filled numbers.old (numbersOf (leftBy onState (lends bytes.now starts.now lengths.now symbols.now image.old replies.old) s (length starts.now)).answers))
-        × (sizes.new ≡ filled sizes.old (lengthsOf (leftBy onState (lends bytes.now starts.now lengths.now symbols.now image.old replies.old) s (length starts.now)).answers)) }
+    requires { unfit_by (length starts.now) (length lengths.now) (min (length numbers.old) (length sizes.old)) (length replies.old) ≡ false }
+    ensures { (result ≡ (left_by on_state (lends bytes.now starts.now lengths.now symbols.now image.old replies.old) s (length starts.now)).state)
+        × (image.new ≡ (left_by on_state (lends bytes.now starts.now lengths.now symbols.now image.old replies.old) s (length starts.now)).image)
+        × (replies.new ≡ (left_by on_state (lends bytes.now starts.now lengths.now symbols.now image.old replies.old) s (length starts.now)).replies)
+        × (numbers.new ≡ filled numbers.old (numbers_of (left_by on_state (lends bytes.now starts.now lengths.now symbols.now image.old replies.old) s (length starts.now)).answers))
+        × (sizes.new ≡ filled sizes.old (lengths_of (left_by on_state (lends bytes.now starts.now lengths.now symbols.now image.old replies.old) s (length starts.now)).answers)) }
 {
     let mut state = s;
     let mut i: usize = 0;
@@ -85,10 +85,10 @@ pub fn batch_numbers(
     numbers: &mut [u8],
     sizes: &mut [u8],
 ) -> BatchReturned
-    ensures { (result.verdict ≡ (batch onState s (lends bytes.now starts.now lengths.now symbols.now image.old replies.old) (min (length numbers.old) (length sizes.old))).verdict)
-        × LeftAs (batch onState s (lends bytes.now starts.now lengths.now symbols.now image.old replies.old) (min (length numbers.old) (length sizes.old))) result.state image.new replies.new
-        × (numbers.new ≡ filled numbers.old (numbersOf (batch onState s (lends bytes.now starts.now lengths.now symbols.now image.old replies.old) (min (length numbers.old) (length sizes.old))).left.answers))
-        × (sizes.new ≡ filled sizes.old (lengthsOf (batch onState s (lends bytes.now starts.now lengths.now symbols.now image.old replies.old) (min (length numbers.old) (length sizes.old))).left.answers)) }
+    ensures { (result.verdict ≡ (batch on_state s (lends bytes.now starts.now lengths.now symbols.now image.old replies.old) (min (length numbers.old) (length sizes.old))).verdict)
+        × LeftAs (batch on_state s (lends bytes.now starts.now lengths.now symbols.now image.old replies.old) (min (length numbers.old) (length sizes.old))) result.state image.new replies.new
+        × (numbers.new ≡ filled numbers.old (numbers_of (batch on_state s (lends bytes.now starts.now lengths.now symbols.now image.old replies.old) (min (length numbers.old) (length sizes.old))).left.answers))
+        × (sizes.new ≡ filled sizes.old (lengths_of (batch on_state s (lends bytes.now starts.now lengths.now symbols.now image.old replies.old) (min (length numbers.old) (length sizes.old))).left.answers)) }
 {
     let records = lesser(numbers.len(), sizes.len());
     let verdict = batch_verdict(starts.len(), lengths.len(), records, replies.len());
@@ -114,9 +114,9 @@ fn answered(
     replies: &mut [u8],
     records: usize,
 ) -> BatchAnswered
-    ensures { (result.returned.verdict ≡ (batch onState s (lends bytes.now starts.now lengths.now symbols.now image.old replies.old) records).verdict)
-        × Answers result.answers records (batch onState s (lends bytes.now starts.now lengths.now symbols.now image.old replies.old) records).left.answers
-        × LeftAs (batch onState s (lends bytes.now starts.now lengths.now symbols.now image.old replies.old) records) result.returned.state image.new replies.new }
+    ensures { (result.returned.verdict ≡ (batch on_state s (lends bytes.now starts.now lengths.now symbols.now image.old replies.old) records).verdict)
+        × Answers result.answers records (batch on_state s (lends bytes.now starts.now lengths.now symbols.now image.old replies.old) records).left.answers
+        × LeftAs (batch on_state s (lends bytes.now starts.now lengths.now symbols.now image.old replies.old) records) result.returned.state image.new replies.new }
 {
     let mut numbers: [u8; 64] = [0; 64];
     let mut sizes: [u8; 64] = [0; 64];
@@ -167,9 +167,9 @@ pub fn batch(
     replies: &mut [u8],
     answers: &mut [ItemAnswer],
 ) -> BatchReturned
-    ensures { (result.verdict ≡ (batch onState s (lends bytes.now starts.now lengths.now symbols.now image.old replies.old) (length answers.old)).verdict)
-        × LeftAs (batch onState s (lends bytes.now starts.now lengths.now symbols.now image.old replies.old) (length answers.old)) result.state image.new replies.new
-        × (answers.new ≡ filled answers.old (batch onState s (lends bytes.now starts.now lengths.now symbols.now image.old replies.old) (length answers.old)).left.answers) }
+    ensures { (result.verdict ≡ (batch on_state s (lends bytes.now starts.now lengths.now symbols.now image.old replies.old) (length answers.old)).verdict)
+        × LeftAs (batch on_state s (lends bytes.now starts.now lengths.now symbols.now image.old replies.old) (length answers.old)) result.state image.new replies.new
+        × (answers.new ≡ filled answers.old (batch on_state s (lends bytes.now starts.now lengths.now symbols.now image.old replies.old) (length answers.old)).left.answers) }
 {
     let r = answered(
         s,

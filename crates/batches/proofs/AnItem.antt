@@ -7,8 +7,8 @@ use native.Mathlib.Omega.{arith}
 use lib.ListN.{length, length-append}
 use lib.Seq.{take-append_seam, drop-append_seam}
 use Rattle.batches.specs.AnItem.{AnItem}
-use Rattle.batches.specs.Batch.{bytesFrom}
-use Rattle.batches.proofs.InPlain.{packet-inside}
+use Rattle.batches.specs.Batch.{bytes_from}
+use Rattle.batches.proofs.InPlain.{packet_inside}
 use Rattle.batches.proofs.Promises.{promises}
 
 module _ (before p after : List ℕ) where
@@ -17,13 +17,13 @@ module _ (before p after : List ℕ) where
   there = simp length-append (omega arith)
 
   -- the bytes from its start on, as many as it has, are the packet
-  its-bytes : bytesFrom (before ++ p ++ after) (length before) (length p) ≡ p
-  its-bytes =
-      packet-inside (before ++ p ++ after) (length before) (length p) there
+  its_bytes : bytes_from (before ++ p ++ after) (length before) (length p) ≡ p
+  its_bytes =
+      packet_inside (before ++ p ++ after) (length before) (length p) there
       ∙ rw (append_assoc, drop-append_seam before (p ++ after), take-append_seam p after)
 
 -- so the call with one item is the call with the packet
 pub an_item : AnItem
 an_item s before p after symbols image replies records some long =
-    rw (its-bytes before p after) at
-    (promises.one-command s (before ++ p ++ after) (length before) (length p) symbols image replies records some long)
+    rw (its_bytes before p after) at
+    (promises.one_command s (before ++ p ++ after) (length before) (length p) symbols image replies records some long)

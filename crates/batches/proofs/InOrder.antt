@@ -11,49 +11,49 @@ use lib.Seq.{length-take-le, take_all, take-suc, take-append-le, drop-append-le,
 use Rattle.lists.specs.Splice.{splice}
 use Rattle.lists.proofs.Tests.{either, contra}
 use Rattle.rules.specs.Commands.{CommandArgs}
-use Rattle.rules.specs.Results.{verdictNumber}
+use Rattle.rules.specs.Results.{verdict_number}
 use Rattle.rules.specs.declared.Refusal.TheVariants.{BufferLength}
 use Rattle.rules.specs.declared.Verdict.TheVariants.{Accepted, Rejected}
-use Rattle.batches.specs.Batch.{BatchArgs, lends, Single, items_of, bytesFrom, packetOf, unfit, Left, leftBy, withItem, Batch, batch}
-use Rattle.batches.specs.InOrder.{Item, itemsAlong, items, made, makes, lastState, lastImage, recordsOf, repliesOf, left_of, InOrder, Fits}
+use Rattle.batches.specs.Batch.{BatchArgs, lends, Single, items_of, bytes_from, packet_of, unfit, Left, left_by, with_item, Batch, batch}
+use Rattle.batches.specs.InOrder.{Item, items_along, items, made, makes, last_state, last_image, records_of, replies_of, left_of, InOrder, Fits}
 use Rattle.batches.proofs.InPlain.{fits_out, fits_in}
 
 -- THE ITEMS ALONG THE LISTS
 
-items-length : (bytes ss ns replies : List ℕ) → length ns ≡ length ss → length (itemsAlong bytes ss ns replies) ≡ length ss
-items-length bytes [] ns replies e = refl
-items-length bytes (s ∷ ss) [] replies e = absurd (omega arith)
-items-length bytes (s ∷ ss) (n ∷ ns) replies e = ap suc (items-length bytes ss ns (drop 32 replies) (omega arith))
+items_length : (bytes ss ns replies : List ℕ) → length ns ≡ length ss → length (items_along bytes ss ns replies) ≡ length ss
+items_length bytes [] ns replies e = refl
+items_length bytes (s ∷ ss) [] replies e = absurd (omega arith)
+items_length bytes (s ∷ ss) (n ∷ ns) replies e = ap suc (items_length bytes ss ns (drop 32 replies) (omega arith))
 
 abbrev no_item : Item
 no_item = record { packet = []; reply = [] }
 
-item-at : (bytes ss ns replies : List ℕ) (k : ℕ) → length ns ≡ length ss → k < length ss
-    → get_or (itemsAlong bytes ss ns replies) k no_item
-    ≡ record { packet = bytesFrom bytes (get_or ss k 0) (get_or ns k 0); reply = take 32 (drop (32 * k) replies) }
-item-at bytes [] ns replies k e h = absurd (omega arith)
-item-at bytes (s ∷ ss) [] replies k e h = absurd (omega arith)
-item-at bytes (s ∷ ss) (n ∷ ns) replies zero e h = refl
-item-at bytes (s ∷ ss) (n ∷ ns) replies (suc k) e h =
+item_at : (bytes ss ns replies : List ℕ) (k : ℕ) → length ns ≡ length ss → k < length ss
+    → get_or (items_along bytes ss ns replies) k no_item
+    ≡ record { packet = bytes_from bytes (get_or ss k 0) (get_or ns k 0); reply = take 32 (drop (32 * k) replies) }
+item_at bytes [] ns replies k e h = absurd (omega arith)
+item_at bytes (s ∷ ss) [] replies k e h = absurd (omega arith)
+item_at bytes (s ∷ ss) (n ∷ ns) replies zero e h = refl
+item_at bytes (s ∷ ss) (n ∷ ns) replies (suc k) e h =
     let next : 32 + 32 * k ≡ 32 * suc k = omega arith in
-    rw (item-at bytes ss ns (drop 32 replies) k (omega arith) (omega arith), drop-drop, next)
+    rw (item_at bytes ss ns (drop 32 replies) k (omega arith) (omega arith), drop-drop, next)
 
 -- items xs then ys, with the replies of xs first
-items-append : (bytes xs lxs ys lys us vs : List ℕ) → length lxs ≡ length xs → length us ≡ 32 * length xs
-    → itemsAlong bytes (xs ++ ys) (lxs ++ lys) (us ++ vs) ≡ itemsAlong bytes xs lxs us ++ itemsAlong bytes ys lys vs
-items-append bytes [] [] ys lys [] vs e f = refl
-items-append bytes [] [] ys lys (u ∷ us) vs e f = absurd (omega arith)
-items-append bytes [] (n ∷ lxs) ys lys us vs e f = absurd (omega arith)
-items-append bytes (x ∷ xs) [] ys lys us vs e f = absurd (omega arith)
-items-append bytes (x ∷ xs) (n ∷ lxs) ys lys us vs e f =
+items_append : (bytes xs lxs ys lys us vs : List ℕ) → length lxs ≡ length xs → length us ≡ 32 * length xs
+    → items_along bytes (xs ++ ys) (lxs ++ lys) (us ++ vs) ≡ items_along bytes xs lxs us ++ items_along bytes ys lys vs
+items_append bytes [] [] ys lys [] vs e f = refl
+items_append bytes [] [] ys lys (u ∷ us) vs e f = absurd (omega arith)
+items_append bytes [] (n ∷ lxs) ys lys us vs e f = absurd (omega arith)
+items_append bytes (x ∷ xs) [] ys lys us vs e f = absurd (omega arith)
+items_append bytes (x ∷ xs) (n ∷ lxs) ys lys us vs e f =
     let room : 32 ≤ length us = omega arith in
     let rest : length (drop 32 us) ≡ 32 * length xs = simp length-drop (omega arith) in
-    rw (take-append-le 32 us vs room, drop-append-le 32 us vs room, items-append bytes xs lxs ys lys (drop 32 us) vs (omega arith) rest)
+    rw (take-append-le 32 us vs room, drop-append-le 32 us vs room, items_append bytes xs lxs ys lys (drop 32 us) vs (omega arith) rest)
 
 -- a write right after some bytes of a buffer
-splice-after : (u v r : List ℕ) (at : ℕ) → length u ≡ at → splice (u ++ v) at r ≡ u ++ (r ++ drop (length r) v)
+splice_after : (u v r : List ℕ) (at : ℕ) → length u ≡ at → splice (u ++ v) at r ≡ u ++ (r ++ drop (length r) v)
 unfolding splice
-splice-after u v r at e = rw (take_at u v at e, ← drop-drop (length r) at (u ++ v), drop_at u v at e)
+splice_after u v r at e = rw (take_at u v at e, ← drop-drop (length r) at (u ++ v), drop_at u v at e)
 
 -- what later items leave after earlier ones, and what items leave with the reply buffer past them
 abbrev pub then : {S : Type 0} → Left S → Left S → Left S
@@ -69,10 +69,10 @@ module _ {S : Type 0} (call : S → CommandArgs → Single S) where
     abbrev runs : S → List ℕ → List Item → Left S
     runs s image xs =
         record {
-          state = lastState s (made call symbols s image xs);
-          image = lastImage image (made call symbols s image xs);
-          replies = repliesOf (made call symbols s image xs);
-          answers = recordsOf (made call symbols s image xs);
+          state = last_state s (made call symbols s image xs);
+          image = last_image image (made call symbols s image xs);
+          replies = replies_of (made call symbols s image xs);
+          answers = records_of (made call symbols s image xs);
         }
 
     runs_append : (s : S) (image : List ℕ) (xs ys : List Item)
@@ -80,7 +80,7 @@ module _ {S : Type 0} (call : S → CommandArgs → Single S) where
     runs_append s image [] ys = refl
     runs_append s image (x ∷ xs) ys =
         let g = (makes call symbols s image x).gave in
-        ap (then (record { state = g.state; image = g.image; replies = g.reply; answers = recordsOf (makes call symbols s image x ∷ []) }))
+        ap (then (record { state = g.state; image = g.image; replies = g.reply; answers = records_of (makes call symbols s image x ∷ []) }))
         (runs_append g.state g.image xs ys)
         ∙ rw append_assoc
 
@@ -88,23 +88,23 @@ module _ {S : Type 0} (call : S → CommandArgs → Single S) where
     -- ITEM K, after items that left l and the bytes `rest` of the reply buffer
     module _ (a : BatchArgs) (l : Left S) (k : ℕ) (rest : List ℕ) where
       abbrev item : Item
-      item = record { packet = packetOf a k; reply = take 32 rest }
+      item = record { packet = packet_of a k; reply = take 32 rest }
 
       abbrev gave : List ℕ → Single S
-      gave lent = call l.state (record { packet = packetOf a k; symbols = a.symbols; image = l.image; reply = lent })
+      gave lent = call l.state (record { packet = packet_of a k; symbols = a.symbols; image = l.image; reply = lent })
 
       abbrev more : Left S
       more = then l (runs a.symbols l.state l.image (item ∷ []))
 
       module _ (size : length l.replies ≡ 32 * k) (room : 32 ≤ length rest) where
-        reply-size : length (gave (take 32 rest)).reply ≡ 32
-        reply-size = keeps l.state _ ∙ length-take-le 32 rest room
+        reply_size : length (gave (take 32 rest)).reply ≡ 32
+        reply_size = keeps l.state _ ∙ length-take-le 32 rest room
 
-        more-size : length more.replies ≡ 32 * suc k
-        more-size = simp (length-append, reply-size) (omega arith)
+        more_size : length more.replies ≡ 32 * suc k
+        more_size = simp (length-append, reply_size) (omega arith)
 
-        item-left : withItem call a (before rest l) k ≡ before (drop 32 rest) more
-        item-left =
+        item_left : with_item call a (before rest l) k ≡ before (drop 32 rest) more
+        item_left =
             ap
             (λ (lent : List ℕ).
             record {
@@ -114,47 +114,47 @@ module _ {S : Type 0} (call : S → CommandArgs → Single S) where
               answers = l.answers ++ (record { number = (gave lent).number; length = (gave lent).length } ∷ []);
             })
             (ap (take 32) (drop_at l.replies rest (32 * k) size))
-            ∙ rw (splice-after l.replies rest (gave (take 32 rest)).reply (32 * k) size, reply-size, append-nil, append_assoc)
+            ∙ rw (splice_after l.replies rest (gave (take 32 rest)).reply (32 * k) size, reply_size, append-nil, append_assoc)
 
     -- ALL ITEMS: k of them leave what the first k single calls leave, with the reply buffer past them
     record Upto (s : S) (a : BatchArgs) (k : ℕ) : Type 0 where
-      is : leftBy call a s k ≡ before (drop (32 * k) a.replies) (runs a.symbols s a.image (take k (items a)))
+      is : left_by call a s k ≡ before (drop (32 * k) a.replies) (runs a.symbols s a.image (take k (items a)))
       size : length (runs a.symbols s a.image (take k (items a))).replies ≡ 32 * k
 
     module _ (s : S) (a : BatchArgs) (records : ℕ) (fit : Fits a records) where
-      all-items : length (items a) ≡ items_of a
-      all-items = items-length a.bytes a.starts a.lengths a.replies fit.equal
+      all_items : length (items a) ≡ items_of a
+      all_items = items_length a.bytes a.starts a.lengths a.replies fit.equal
 
       upto : (k : ℕ) → k ≤ items_of a → Upto s a k
-      unfolding leftBy
+      unfolding left_by
       upto zero h = record { is = refl; size = refl }
       upto (suc k) h =
           let u : Upto s a k = upto k (omega arith) in
           let l : Left S = runs a.symbols s a.image (take k (items a)) in
           let rest : List ℕ = drop (32 * k) a.replies in
           let room : 32 ≤ length rest = simp length-drop (omega (arith, fit.bytes)) in
-          let short : k < length (items a) = rw all-items h in
+          let short : k < length (items a) = rw all_items h in
           let next : 32 * k + 32 ≡ 32 * suc k = omega arith in
           let taken : take (suc k) (items a) ≡ take k (items a) ++ (item a l k rest ∷ []) =
-          rw (take-suc (items a) k no_item short, item-at a.bytes a.starts a.lengths a.replies k fit.equal h) in
+          rw (take-suc (items a) k no_item short, item_at a.bytes a.starts a.lengths a.replies k fit.equal h) in
           let split : runs a.symbols s a.image (take (suc k) (items a)) ≡ more a l k rest = rw taken (runs_append a.symbols s a.image (take k (items a)) _) in
           record {
             is =
-                ap (λ (m : Left S). withItem call a m k) u.is
-                ∙ item-left a l k rest u.size room
+                ap (λ (m : Left S). with_item call a m k) u.is
+                ∙ item_left a l k rest u.size room
                 ∙ ap (before (drop 32 rest)) (sym split)
                 ∙ rw (drop-drop, next);
-            size = ap (λ (m : Left S). length m.replies) split ∙ more-size a l k rest u.size room;
+            size = ap (λ (m : Left S). length m.replies) split ∙ more_size a l k rest u.size room;
           }
 
-      all_of : leftBy call a s (items_of a) ≡ left_of s a (made call a.symbols s a.image (items a))
+      all_of : left_by call a s (items_of a) ≡ left_of s a (made call a.symbols s a.image (items a))
       all_of =
           (upto (items_of a) (omega arith)).is
-          ∙ ap (λ (xs : List Item). before (drop (32 * items_of a) a.replies) (runs a.symbols s a.image xs)) (take_all (items_of a) (items a) (omega (arith, all-items)))
+          ∙ ap (λ (xs : List Item). before (drop (32 * items_of a) a.replies) (runs a.symbols s a.image xs)) (take_all (items_of a) (items a) (omega (arith, all_items)))
 
-      in-order-of : batch call s a records ≡ record { verdict = Accepted; left = left_of s a (made call a.symbols s a.image (items a)) }
+      in_order_of : batch call s a records ≡ record { verdict = Accepted; left = left_of s a (made call a.symbols s a.image (items a)) }
       unfolding batch
-      in-order-of = rw (fits_in a records fit) (ap (λ (l : Left S). record { verdict = Accepted; left = l }) all_of)
+      in_order_of = rw (fits_in a records fit) (ap (λ (l : Left S). record { verdict = Accepted; left = l }) all_of)
 
     -- ITEMS XS THEN YS
     module _ (s : S) (bytes xs lxs ys lys symbols image replies : List ℕ) (records : ℕ)
@@ -164,32 +164,32 @@ module _ {S : Type 0} (call : S → CommandArgs → Single S) where
       at = 32 * length xs
 
       abbrev front : Left S
-      front = runs symbols s image (itemsAlong bytes xs lxs (take at replies))
+      front = runs symbols s image (items_along bytes xs lxs (take at replies))
 
       abbrev back : Left S
-      back = runs symbols front.state front.image (itemsAlong bytes ys lys (drop at replies))
+      back = runs symbols front.state front.image (items_along bytes ys lys (drop at replies))
 
       front_long : length (take at replies) ≡ at
       front_long = length-take-le at replies (omega arith)
 
-      both_runs : runs symbols s image (itemsAlong bytes (xs ++ ys) (lxs ++ lys) replies) ≡ then front back
+      both_runs : runs symbols s image (items_along bytes (xs ++ ys) (lxs ++ lys) replies) ≡ then front back
       both_runs =
-          ap (λ (r : List ℕ). runs symbols s image (itemsAlong bytes (xs ++ ys) (lxs ++ lys) r)) (sym (take-append-drop at replies))
-          ∙ ap (runs symbols s image) (items-append bytes xs lxs ys lys (take at replies) (drop at replies) ex front_long)
-          ∙ runs_append symbols s image (itemsAlong bytes xs lxs (take at replies)) (itemsAlong bytes ys lys (drop at replies))
+          ap (λ (r : List ℕ). runs symbols s image (items_along bytes (xs ++ ys) (lxs ++ lys) r)) (sym (take-append-drop at replies))
+          ∙ ap (runs symbols s image) (items_append bytes xs lxs ys lys (take at replies) (drop at replies) ex front_long)
+          ∙ runs_append symbols s image (items_along bytes xs lxs (take at replies)) (items_along bytes ys lys (drop at replies))
 
-      first-left : (batch call s (lends bytes xs lxs symbols image (take at replies)) (length xs)).left ≡ before [] front
-      first-left =
+      first_left : (batch call s (lends bytes xs lxs symbols image (take at replies)) (length xs)).left ≡ before [] front
+      first_left =
           ap (λ (b : Batch S). b.left)
-          (in-order-of s (lends bytes xs lxs symbols image (take at replies)) (length xs)
+          (in_order_of s (lends bytes xs lxs symbols image (take at replies)) (length xs)
           (record { few = omega arith; equal = ex; room = omega arith; bytes = omega (arith, front_long) }))
           ∙ ap (λ (r : List ℕ). before r front) (slice_empty at replies)
 
-      second-left : (batch call front.state (lends bytes ys lys symbols front.image (drop at replies)) (records - length xs)).left
+      second_left : (batch call front.state (lends bytes ys lys symbols front.image (drop at replies)) (records - length xs)).left
           ≡ before (drop (32 * length ys) (drop at replies)) back
-      second-left =
+      second_left =
           ap (λ (b : Batch S). b.left)
-          (in-order-of front.state (lends bytes ys lys symbols front.image (drop at replies)) (records - length xs)
+          (in_order_of front.state (lends bytes ys lys symbols front.image (drop at replies)) (records - length xs)
           (record { few = omega arith; equal = ey; room = omega arith; bytes = simp length-drop (omega arith) }))
 
       both_left : batch call s (lends bytes (xs ++ ys) (lxs ++ lys) symbols image replies) records
@@ -198,63 +198,63 @@ module _ {S : Type 0} (call : S → CommandArgs → Single S) where
           let n : length (xs ++ ys) ≡ length xs + length ys = length-append xs ys in
           let m : length (lxs ++ lys) ≡ length lxs + length lys = length-append lxs lys in
           let end : at + 32 * length ys ≡ 32 * length (xs ++ ys) = omega arith in
-          in-order-of s (lends bytes (xs ++ ys) (lxs ++ lys) symbols image replies) records
+          in_order_of s (lends bytes (xs ++ ys) (lxs ++ lys) symbols image replies) records
           (record { few = omega arith; equal = omega arith; room = omega arith; bytes = omega arith })
           ∙ ap (λ (l : Left S). record { verdict = Accepted; left = before (drop (32 * length (xs ++ ys)) replies) l }) both_runs
           ∙ rw (append-nil, drop-drop, end, append_assoc)
 
-      one-after-the-other : (first second : Left S)
+      one_after_the_other : (first second : Left S)
           → first ≡ (batch call s (lends bytes xs lxs symbols image (take at replies)) (length xs)).left
           → second ≡ (batch call first.state (lends bytes ys lys symbols first.image (drop at replies)) (records - length xs)).left
           → batch call s (lends bytes (xs ++ ys) (lxs ++ lys) symbols image replies) records ≡ record { verdict = Accepted; left = then first second }
-      one-after-the-other first second p q =
-          let f : first ≡ before [] front = p ∙ first-left in
+      one_after_the_other first second p q =
+          let f : first ≡ before [] front = p ∙ first_left in
           let g : second ≡ before (drop (32 * length ys) (drop at replies)) back =
           q
           ∙ ap (λ (l : Left S). (batch call l.state (lends bytes ys lys symbols l.image (drop at replies)) (records - length xs)).left) f
-          ∙ second-left in
+          ∙ second_left in
           rw (f, g) both_left
 
-    nothing-done : (s : S) (a : BatchArgs) (records : ℕ) → unfit a records ≡ true
+    nothing_done : (s : S) (a : BatchArgs) (records : ℕ) → unfit a records ≡ true
         → batch call s a records ≡ record { verdict = Rejected BufferLength; left = record { state = s; image = a.image; replies = a.replies; answers = [] } }
-    unfolding batch leftBy
-    nothing-done s a records h = rw h
+    unfolding batch left_by
+    nothing_done s a records h = rw h
 
     -- the number of the whole call, by the test
-    number-fit : (s : S) (a : BatchArgs) (records : ℕ) → unfit a records ≡ false → verdictNumber (batch call s a records).verdict ≡ 0
+    number_fit : (s : S) (a : BatchArgs) (records : ℕ) → unfit a records ≡ false → verdict_number (batch call s a records).verdict ≡ 0
     unfolding batch
-    number-fit s a records h = rw h
+    number_fit s a records h = rw h
 
-    number-unfit : (s : S) (a : BatchArgs) (records : ℕ) → unfit a records ≡ true → verdictNumber (batch call s a records).verdict ≡ 3
+    number_unfit : (s : S) (a : BatchArgs) (records : ℕ) → unfit a records ≡ true → verdict_number (batch call s a records).verdict ≡ 3
     unfolding batch
-    number-unfit s a records h = rw h
+    number_unfit s a records h = rw h
 
-    when-taken : (s : S) (a : BatchArgs) (records : ℕ) → (verdictNumber (batch call s a records).verdict ≡ 0) ↔ Fits a records
-    when-taken s a records =
+    when_taken : (s : S) (a : BatchArgs) (records : ℕ) → (verdict_number (batch call s a records).verdict ≡ 0) ↔ Fits a records
+    when_taken s a records =
         either (unfit a records)
-        (λ u. let e = number-unfit s a records u in (λ z. absurd (omega arith), λ f. absurd (contra u (fits_in a records f))))
-        (λ u. (λ z. fits_out a records u, λ f. number-fit s a records u))
+        (λ u. let e = number_unfit s a records u in (λ z. absurd (omega arith), λ f. absurd (contra u (fits_in a records f))))
+        (λ u. (λ z. fits_out a records u, λ f. number_fit s a records u))
 
-    when-not-taken : (s : S) (a : BatchArgs) (records : ℕ) → (verdictNumber (batch call s a records).verdict ≡ 3) ↔ (Fits a records → ⊥)
-    when-not-taken s a records =
+    when_not_taken : (s : S) (a : BatchArgs) (records : ℕ) → (verdict_number (batch call s a records).verdict ≡ 3) ↔ (Fits a records → ⊥)
+    when_not_taken s a records =
         either (unfit a records)
-        (λ u. (λ z f. contra u (fits_in a records f), λ n. number-unfit s a records u))
-        (λ u. let e = number-fit s a records u in (λ z f. absurd (omega arith), λ n. absurd (n (fits_out a records u))))
+        (λ u. (λ z f. contra u (fits_in a records f), λ n. number_unfit s a records u))
+        (λ u. let e = number_fit s a records u in (λ z f. absurd (omega arith), λ n. absurd (n (fits_out a records u))))
 
-    pub in_order : InOrder call
-    in_order =
+    pub in_order_lem : InOrder call
+    in_order_lem =
         record {
-          taken = when-taken;
-          not_taken = when-not-taken;
-          equals = λ s a records h. in-order-of s a records (fits_out a records h);
-          refused = nothing-done;
+          taken = when_taken;
+          not_taken = when_not_taken;
+          equals = λ s a records h. in_order_of s a records (fits_out a records h);
+          refused = nothing_done;
           none = λ s bytes symbols image replies records.
-              in-order-of s (lends bytes [] [] symbols image replies) records
+              in_order_of s (lends bytes [] [] symbols image replies) records
               (record { few = omega arith; equal = refl; room = omega arith; bytes = omega arith });
           one = λ s bytes start n symbols image replies records h k.
-              in-order-of s (lends bytes (start ∷ []) (n ∷ []) symbols image replies) records
+              in_order_of s (lends bytes (start ∷ []) (n ∷ []) symbols image replies) records
               (record { few = omega arith; equal = refl; room = h; bytes = k })
-              ∙ (let c : Single S = call s (record { packet = bytesFrom bytes start n; symbols = symbols; image = image; reply = take 32 replies }) in
+              ∙ (let c : Single S = call s (record { packet = bytes_from bytes start n; symbols = symbols; image = image; reply = take 32 replies }) in
               ap
               (λ (r : List ℕ).
               record {
@@ -268,20 +268,20 @@ module _ {S : Type 0} (call : S → CommandArgs → Single S) where
                     };
               })
               (append-nil c.reply));
-          joined = one-after-the-other;
+          joined = one_after_the_other;
         }
 
 -- A CALL THAT ANSWERS 1 and leaves all as it was: so does each item
 module _ {S : Type 0} (call : S → CommandArgs → Single S) (s : S) (keeps : (s : S) (c : CommandArgs) → length (call s c).reply ≡ length c.reply)
     (bad : (c : CommandArgs) → call s c ≡ record { number = 1; length = 0; state = s; image = c.image; reply = c.reply }) where
-  bad-runs : (symbols image bytes ss ns replies : List ℕ) → length ns ≡ length ss
-      → runs call symbols s image (itemsAlong bytes ss ns replies)
+  bad_runs : (symbols image bytes ss ns replies : List ℕ) → length ns ≡ length ss
+      → runs call symbols s image (items_along bytes ss ns replies)
       ≡ record { state = s; image = image; replies = take (32 * length ss) replies; answers = replicate (length ss) (record { number = 1; length = 0 }) }
-  bad-runs symbols image bytes [] ns replies e = refl
-  bad-runs symbols image bytes (x ∷ ss) [] replies e = absurd (omega arith)
-  bad-runs symbols image bytes (x ∷ ss) (n ∷ ns) replies e =
+  bad_runs symbols image bytes [] ns replies e = refl
+  bad_runs symbols image bytes (x ∷ ss) [] replies e = absurd (omega arith)
+  bad_runs symbols image bytes (x ∷ ss) (n ∷ ns) replies e =
       let next : 32 * suc (length ss) ≡ 32 + 32 * length ss = omega arith in
-      rw (bad (record { packet = bytesFrom bytes x n; symbols = symbols; image = image; reply = take 32 replies }), next, take-add 32 (32 * length ss) replies)
+      rw (bad (record { packet = bytes_from bytes x n; symbols = symbols; image = image; reply = take 32 replies }), next, take-add 32 (32 * length ss) replies)
       (ap
       (λ (l : Left S).
       record {
@@ -290,9 +290,9 @@ module _ {S : Type 0} (call : S → CommandArgs → Single S) (s : S) (keeps : (
         replies = take 32 replies ++ l.replies;
         answers = record { number = 1; length = 0 } ∷ l.answers;
       })
-      (bad-runs symbols image bytes ss ns (drop 32 replies) (omega arith)))
+      (bad_runs symbols image bytes ss ns (drop 32 replies) (omega arith)))
 
-  pub all-refused : (a : BatchArgs) (records : ℕ) → unfit a records ≡ false
+  pub all_refused : (a : BatchArgs) (records : ℕ) → unfit a records ≡ false
       → batch call s a records
       ≡ record {
         verdict = Accepted;
@@ -304,13 +304,13 @@ module _ {S : Type 0} (call : S → CommandArgs → Single S) (s : S) (keeps : (
               answers = replicate (items_of a) (record { number = 1; length = 0 });
             };
       }
-  all-refused a records h =
-      (in_order call keeps).equals s a records h
+  all_refused a records h =
+      (in_order_lem call keeps).equals s a records h
       ∙ ap
       (λ (l : Left S).
       record {
         verdict = Accepted;
         left = record { state = l.state; image = l.image; replies = l.replies ++ drop (32 * items_of a) a.replies; answers = l.answers };
       })
-      (bad-runs a.symbols a.image a.bytes a.starts a.lengths a.replies (fits_out a records h).equal)
+      (bad_runs a.symbols a.image a.bytes a.starts a.lengths a.replies (fits_out a records h).equal)
       ∙ rw take-append-drop

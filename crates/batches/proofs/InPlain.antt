@@ -10,7 +10,7 @@ use lib.ListN.{length, take, drop, length-drop}
 use lib.Seq.{length-take-le, get_or-take, get_or-drop}
 use borrow.Author.Tests.{ltb-false, le-ltb, le-leb, lt-leb, eqb-true, eq-eqb, not-false}
 use Rattle.lists.proofs.Tests.{or_left, or_right}
-use Rattle.batches.specs.Batch.{BatchArgs, items_of, bytesFrom, unfit}
+use Rattle.batches.specs.Batch.{BatchArgs, items_of, bytes_from, unfit}
 use Rattle.batches.specs.InOrder.{Fits, InPlain}
 
 module _ (a : BatchArgs) (records : ℕ) where
@@ -35,21 +35,21 @@ module _ (a : BatchArgs) (records : ℕ) where
       rw (le-ltb 64 (items_of a) f.few, eq-eqb (length a.lengths) (items_of a) f.equal, le-ltb records (items_of a) f.room, le-ltb (length a.replies) (32 * items_of a) f.bytes)
 
 module _ (bytes : List ℕ) (start n : ℕ) where
-  pub packet-inside : start + n ≤ length bytes → bytesFrom bytes start n ≡ take n (drop start bytes)
-  unfolding bytesFrom
-  packet-inside h = rw le-leb
+  pub packet_inside : start + n ≤ length bytes → bytes_from bytes start n ≡ take n (drop start bytes)
+  unfolding bytes_from
+  packet_inside h = rw le-leb
 
-  pub packet-outside : length bytes < start + n → bytesFrom bytes start n ≡ []
-  unfolding bytesFrom
-  packet-outside h = rw lt-leb
+  pub packet_outside : length bytes < start + n → bytes_from bytes start n ≡ []
+  unfolding bytes_from
+  packet_outside h = rw lt-leb
 
-  packet-length : start + n ≤ length bytes → length (take n (drop start bytes)) ≡ n
-  packet-length h = length-take-le n (drop start bytes) (simp length-drop (omega arith))
+  packet_length_lem : start + n ≤ length bytes → length (take n (drop start bytes)) ≡ n
+  packet_length_lem h = length-take-le n (drop start bytes) (simp length-drop (omega arith))
 
-pub in-plain : InPlain
-in-plain =
+pub in_plain : InPlain
+in_plain =
     record {
       fits = λ a records. (fits_out a records, fits_in a records);
-      inside = λ bytes start n h. rw (packet-inside bytes start n h) (packet-length bytes start n h, λ k l. rw (get_or-take n (drop start bytes) k 0 l, get_or-drop));
-      outside = packet-outside;
+      inside = λ bytes start n h. rw (packet_inside bytes start n h) (packet_length_lem bytes start n h, λ k l. rw (get_or-take n (drop start bytes) k 0 l, get_or-drop));
+      outside = packet_outside;
     }

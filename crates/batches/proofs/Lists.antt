@@ -7,28 +7,28 @@ use Prim.Native.Nat.{ℕ, ◌+◌, ◌-◌, ◌≤◌}
 use native.Mathlib.Omega.{arith}
 use lib.ListN.{length, take, drop, length-take, length-drop, get_or-eq_default}
 use lib.Seq.{get_or-take, get_or-drop}
-use Rattle.lists.proofs.Tests.{either, by-lt}
+use Rattle.lists.proofs.Tests.{either, by_lt}
 use Rattle.wire.specs.Bytes.{AreBytes}
-use Rattle.rules.specs.Commands.{CommandArgs, commandCall}
+use Rattle.rules.specs.Commands.{CommandArgs, command_call}
 use Rattle.rules.specs.Demand3.{Call, command, slot, LendsBytes, Event, step, events, NoneWaits}
-use Rattle.rules.specs.States.{goodState, startUp}
+use Rattle.rules.specs.States.{good_state, start_up}
 use Rattle.rules.specs.declared.State.{State}
-use Rattle.rules.proofs.ExactEffect.{demand-2}
-use Rattle.rules.proofs.NoDumpWaits.{demand-3}
-use Rattle.batches.specs.Batch.{BatchArgs, lends, onState, bytesFrom, unfit, Batch, batch}
-use Rattle.batches.specs.InOrder.{itemsAlong, made, lastState, Fits}
-use Rattle.batches.specs.Lists.{Step, one, many, StepBytes, StepsLendBytes, returnedBy, itemEvents, eventsOf, eventsAlong, Demand3WithBatches, StaysGood, ItemsAreCalls}
-use Rattle.batches.proofs.InPlain.{packet-inside, packet-outside, fits_out, fits_in}
-use Rattle.batches.proofs.Promises.{command-in-order}
+use Rattle.rules.proofs.ExactEffect.{demand_2}
+use Rattle.rules.proofs.NoDumpWaits.{demand_3}
+use Rattle.batches.specs.Batch.{BatchArgs, lends, on_state, bytes_from, unfit, Batch, batch}
+use Rattle.batches.specs.InOrder.{items_along, made, last_state, Fits}
+use Rattle.batches.specs.Lists.{Step, one, many, StepBytes, StepsLendBytes, returned_by, item_events, events_of, events_along, Demand3WithBatches, StaysGood, ItemsAreCalls}
+use Rattle.batches.proofs.InPlain.{packet_inside, packet_outside, fits_out, fits_in}
+use Rattle.batches.proofs.Promises.{command_in_order}
 
 -- an item's packet is bytes
-pub packet-bytes : (bytes : List ℕ) (start n : ℕ) → AreBytes bytes → AreBytes (bytesFrom bytes start n)
-packet-bytes bytes start n b i =
-    by-lt (length bytes) (start + n)
-    (λ h. rw (packet-outside bytes start n h) (omega arith))
+pub packet_bytes_lem : (bytes : List ℕ) (start n : ℕ) → AreBytes bytes → AreBytes (bytes_from bytes start n)
+packet_bytes_lem bytes start n b i =
+    by_lt (length bytes) (start + n)
+    (λ h. rw (packet_outside bytes start n h) (omega arith))
     (λ h.
-    rw (packet-inside bytes start n h)
-    (by-lt i n
+    rw (packet_inside bytes start n h)
+    (by_lt i n
     (λ k. rw (get_or-take n (drop start bytes) i 0 k, get_or-drop) (b (start + i)))
     (λ k.
     let past : length (take n (drop start bytes)) ≤ i = simp length-take (omega arith) in
@@ -50,81 +50,81 @@ with_call s c es b t =
 
 -- the items of a batch, and what follows them
 with_items : (s : State) (symbols image bytes ss ns replies : List ℕ) (es : List Event) → AreBytes bytes
-    → Told (lastState s (made onState symbols s image (itemsAlong bytes ss ns replies))) es
-    → Told s (itemEvents (made onState symbols s image (itemsAlong bytes ss ns replies)) ++ es)
+    → Told (last_state s (made on_state symbols s image (items_along bytes ss ns replies))) es
+    → Told s (item_events (made on_state symbols s image (items_along bytes ss ns replies)) ++ es)
 with_items s symbols image bytes [] ns replies es b t = t
 with_items s symbols image bytes (x ∷ ss) [] replies es b t = t
 with_items s symbols image bytes (x ∷ ss) (n ∷ ns) replies es b t =
-    let c : CommandArgs = record { packet = bytesFrom bytes x n; symbols = symbols; image = image; reply = take 32 replies } in
-    with_call s (command c) _ (λ cs l. (packet-bytes bytes x n b, l))
+    let c : CommandArgs = record { packet = bytes_from bytes x n; symbols = symbols; image = image; reply = take 32 replies } in
+    with_call s (command c) _ (λ cs l. (packet_bytes_lem bytes x n b, l))
     (with_items (step s (command c)).state symbols (step s (command c)).image bytes ss ns (drop 32 replies) es b t)
 
-with-step : (s : State) (x : Step) (es : List Event) → StepBytes x → Told (returnedBy s x) es → Told s (eventsOf s x ++ es)
-with-step s (one (command c)) es b t = with_call s (command c) es (λ cs l. (b, l)) t
-with-step s (one (slot c)) es b t = with_call s (slot c) es (λ cs l. l) t
-with-step s (many a records) es b t =
-    let left : (o : Batch State) → batch onState s a records ≡ o → Told o.left.state es = λ o e. subst (λ (p : Batch State). Told p.left.state es) e t in
+with_step : (s : State) (x : Step) (es : List Event) → StepBytes x → Told (returned_by s x) es → Told s (events_of s x ++ es)
+with_step s (one (command c)) es b t = with_call s (command c) es (λ cs l. (b, l)) t
+with_step s (one (slot c)) es b t = with_call s (slot c) es (λ cs l. l) t
+with_step s (many a records) es b t =
+    let left : (o : Batch State) → batch on_state s a records ≡ o → Told o.left.state es = λ o e. subst (λ (p : Batch State). Told p.left.state es) e t in
     either (unfit a records)
-    (λ e. rw e (left _ (command-in-order.refused s a records e)))
-    (λ e. rw e (with_items s a.symbols a.image a.bytes a.starts a.lengths a.replies es b (left _ (command-in-order.equals s a records e))))
+    (λ e. rw e (left _ (command_in_order.refused s a records e)))
+    (λ e. rw e (with_items s a.symbols a.image a.bytes a.starts a.lengths a.replies es b (left _ (command_in_order.equals s a records e))))
 
-pub along : (s : State) (xs : List Step) → StepsLendBytes xs → Told s (eventsAlong s xs)
+pub along : (s : State) (xs : List Step) → StepsLendBytes xs → Told s (events_along s xs)
 along s [] bs = record { calls = []; bytes = tt; are = refl }
-along s (x ∷ xs) bs = with-step s x (eventsAlong (returnedBy s x) xs) bs.0 (along (returnedBy s x) xs bs.1)
+along s (x ∷ xs) bs = with_step s x (events_along (returned_by s x) xs) bs.0 (along (returned_by s x) xs bs.1)
 
-pub demand-3-with-batches : Demand3WithBatches
-demand-3-with-batches rs n pools unit h xs bs =
-    let t = along (startUp rs n pools unit).state xs bs in
-    subst (NoneWaits rs n) (sym t.are) (demand-3 demand-2 rs n pools unit h t.calls t.bytes)
+pub demand_3_with_batches : Demand3WithBatches
+demand_3_with_batches rs n pools unit h xs bs =
+    let t = along (start_up rs n pools unit).state xs bs in
+    subst (NoneWaits rs n) (sym t.are) (demand_3 demand_2 rs n pools unit h t.calls t.bytes)
 
 -- A GOOD STATE STAYS GOOD
 
-good-along : (s : State) (symbols image bytes ss ns replies : List ℕ) → AreBytes bytes → goodState s ≡ true
-    → goodState (lastState s (made onState symbols s image (itemsAlong bytes ss ns replies))) ≡ true
-good-along s symbols image bytes [] ns replies b g = g
-good-along s symbols image bytes (x ∷ ss) [] replies b g = g
-good-along s symbols image bytes (x ∷ ss) (n ∷ ns) replies b g =
-    let c : CommandArgs = record { packet = bytesFrom bytes x n; symbols = symbols; image = image; reply = take 32 replies } in
-    good-along (commandCall s c).state symbols (commandCall s c).image bytes ss ns (drop 32 replies) b (demand-2.command-good s c (packet-bytes bytes x n b) g)
+good_along : (s : State) (symbols image bytes ss ns replies : List ℕ) → AreBytes bytes → good_state s ≡ true
+    → good_state (last_state s (made on_state symbols s image (items_along bytes ss ns replies))) ≡ true
+good_along s symbols image bytes [] ns replies b g = g
+good_along s symbols image bytes (x ∷ ss) [] replies b g = g
+good_along s symbols image bytes (x ∷ ss) (n ∷ ns) replies b g =
+    let c : CommandArgs = record { packet = bytes_from bytes x n; symbols = symbols; image = image; reply = take 32 replies } in
+    good_along (command_call s c).state symbols (command_call s c).image bytes ss ns (drop 32 replies) b (demand_2.command_good s c (packet_bytes_lem bytes x n b) g)
 
-pub stays-good : StaysGood
-stays-good s a records b g =
-    let good : Batch State → Type 0 = λ o. goodState o.left.state ≡ true in
+pub stays_good : StaysGood
+stays_good s a records b g =
+    let good : Batch State → Type 0 = λ o. good_state o.left.state ≡ true in
     either (unfit a records)
-    (λ e. subst good (sym (command-in-order.refused s a records e)) g)
+    (λ e. subst good (sym (command_in_order.refused s a records e)) g)
     (λ e.
-    subst good (sym (command-in-order.equals s a records e))
-    (good-along s a.symbols a.image a.bytes a.starts a.lengths a.replies b g))
+    subst good (sym (command_in_order.equals s a records e))
+    (good_along s a.symbols a.image a.bytes a.starts a.lengths a.replies b g))
 
 -- WHAT FIXES THE EVENTS
 
-no-events : (s : State) (a : BatchArgs) (records : ℕ) (xs : List Step) → unfit a records ≡ true
-    → eventsAlong s (many a records ∷ xs) ≡ eventsAlong s xs
-no-events s a records xs e =
-    rw e (ap (λ (o : Batch State). eventsAlong o.left.state xs) (command-in-order.refused s a records e))
+no_events : (s : State) (a : BatchArgs) (records : ℕ) (xs : List Step) → unfit a records ≡ true
+    → events_along s (many a records ∷ xs) ≡ events_along s xs
+no_events s a records xs e =
+    rw e (ap (λ (o : Batch State). events_along o.left.state xs) (command_in_order.refused s a records e))
 
 module _ (s : State) (bytes symbols image replies : List ℕ) (records : ℕ) (xs : List Step) where
   abbrev empty : BatchArgs
   empty = lends bytes [] [] symbols image replies
 
-  no_item : eventsAlong s (many empty records ∷ xs) ≡ eventsAlong s xs
+  no_item : events_along s (many empty records ∷ xs) ≡ events_along s xs
   no_item =
       rw (fits_in empty records (record { few = omega arith; equal = refl; room = omega arith; bytes = omega arith }))
-      (ap (λ (o : Batch State). eventsAlong o.left.state xs) (command-in-order.none s bytes symbols image replies records))
+      (ap (λ (o : Batch State). events_along o.left.state xs) (command_in_order.none s bytes symbols image replies records))
 
 module _ (s : State) (bytes : List ℕ) (start : ℕ) (ss : List ℕ) (n : ℕ) (ns symbols image replies : List ℕ) (records : ℕ) (xs : List Step)
     (h : unfit (lends bytes (start ∷ ss) (n ∷ ns) symbols image replies) records ≡ false) where
   abbrev c : CommandArgs
-  c = record { packet = bytesFrom bytes start n; symbols = symbols; image = image; reply = take 32 replies }
+  c = record { packet = bytes_from bytes start n; symbols = symbols; image = image; reply = take 32 replies }
 
   abbrev whole : BatchArgs
   whole = lends bytes (start ∷ ss) (n ∷ ns) symbols image replies
 
   abbrev others : BatchArgs
-  others = lends bytes ss ns symbols (commandCall s c).image (drop 32 replies)
+  others = lends bytes ss ns symbols (command_call s c).image (drop 32 replies)
 
-  others-fit : unfit others (records - 1) ≡ false
-  others-fit =
+  others_fit : unfit others (records - 1) ≡ false
+  others_fit =
       let f : Fits whole records = fits_out whole records h in
       fits_in others (records - 1)
       (record {
@@ -134,31 +134,31 @@ module _ (s : State) (bytes : List ℕ) (start : ℕ) (ss : List ℕ) (n : ℕ) 
         bytes = simp length-drop (omega (arith, f.bytes));
       })
 
-  same-state : (batch onState s whole records).left.state ≡ (batch onState (commandCall s c).state others (records - 1)).left.state
-  same-state =
-      ap (λ (o : Batch State). o.left.state) (command-in-order.equals s whole records h)
-      ∙ sym (ap (λ (o : Batch State). o.left.state) (command-in-order.equals (commandCall s c).state others (records - 1) others-fit))
+  same_state : (batch on_state s whole records).left.state ≡ (batch on_state (command_call s c).state others (records - 1)).left.state
+  same_state =
+      ap (λ (o : Batch State). o.left.state) (command_in_order.equals s whole records h)
+      ∙ sym (ap (λ (o : Batch State). o.left.state) (command_in_order.equals (command_call s c).state others (records - 1) others_fit))
 
-  first-item : eventsAlong s (many whole records ∷ xs) ≡ eventsAlong s (one (command c) ∷ many others (records - 1) ∷ xs)
-  first-item =
-      rw (h, others-fit)
+  first_item : events_along s (many whole records ∷ xs) ≡ events_along s (one (command c) ∷ many others (records - 1) ∷ xs)
+  first_item =
+      rw (h, others_fit)
       (ap
       (λ (t : State).
       event s (command c)
-      ∷ itemEvents (made onState symbols (commandCall s c).state (commandCall s c).image (itemsAlong bytes ss ns (drop 32 replies)))
-      ++ eventsAlong t xs)
-      same-state)
+      ∷ item_events (made on_state symbols (command_call s c).state (command_call s c).image (items_along bytes ss ns (drop 32 replies)))
+      ++ events_along t xs)
+      same_state)
 
-pub items-are-calls : ItemsAreCalls
-items-are-calls =
+pub items_are_calls : ItemsAreCalls
+items_are_calls =
     record {
       no_step = tt;
-      command-step = λ c xs b h. (b, h);
+      command_step = λ c xs b h. (b, h);
       slot_step = λ c xs h. (tt, h);
-      batch-step = λ a records xs b h. (b, h);
+      batch_step = λ a records xs b h. (b, h);
       none = λ s. refl;
       call = λ s c xs. refl;
-      refused = no-events;
+      refused = no_events;
       no_item = no_item;
-      first-item = first-item;
+      first_item = first_item;
     }

@@ -7,34 +7,34 @@ use Prim.Native.Nat.{ℕ, zero, suc, ◌+◌, ◌-◌, ◌≤◌, ◌<◌}
 use native.Mathlib.Omega.{arith}
 use lib.ListN.{length, get_or, drop, length-append, length-drop, get_or-append}
 use lib.Seq.{get_or-append-add, get_or-drop}
-use Rattle.rules.specs.Commands.{CommandArgs, commandRows, commandCall}
-use Rattle.rules.specs.Results.{lowest, lentRows}
-use Rattle.rules.specs.States.{goodState}
+use Rattle.rules.specs.Commands.{CommandArgs, command_rows, command_call}
+use Rattle.rules.specs.Results.{lowest, lent_rows}
+use Rattle.rules.specs.States.{good_state}
 use Rattle.rules.specs.declared.Answer.TheVariants.{Refused}
 use Rattle.rules.specs.declared.Refusal.TheVariants.{BadState}
 use Rattle.rules.specs.declared.State.{State}
-use Rattle.rules.proofs.Refusals.{demand-1}
+use Rattle.rules.proofs.Refusals.{demand_1}
 use Rattle.answers.specs.declared.ItemAnswer.{ItemAnswer}
-use Rattle.batches.specs.Batch.{onState, filled, numbersOf, lengthsOf}
-use Rattle.batches.specs.InOrder.{InOrder, FilledIs, noAnswer, LentLists, Promises}
-use Rattle.batches.proofs.InPlain.{in-plain}
-use Rattle.batches.proofs.InOrder.{in_order, all-refused}
+use Rattle.batches.specs.Batch.{on_state, filled, numbers_of, lengths_of}
+use Rattle.batches.specs.InOrder.{InOrder, FilledIs, no_answer, LentLists, Promises}
+use Rattle.batches.proofs.InPlain.{in_plain}
+use Rattle.batches.proofs.InOrder.{in_order_lem, all_refused}
 use Rattle.batches.proofs.Unwritten.{unwritten, beyond}
 
 -- the command call leaves its reply buffer as long as it was
-pub reply-kept : (s : State) (c : CommandArgs) → length (onState s c).reply ≡ length c.reply
-reply-kept s c = (demand-1.command s c).lent.1
+pub reply_kept : (s : State) (c : CommandArgs) → length (on_state s c).reply ≡ length c.reply
+reply_kept s c = (demand_1.command s c).lent.1
 
-pub command-in-order : InOrder onState
-command-in-order = in_order onState reply-kept
+pub command_in_order : InOrder on_state
+command_in_order = in_order_lem on_state reply_kept
 
-module _ (s : State) (bad : goodState s ≡ false) where
-  bad-call : (c : CommandArgs) → commandCall s c ≡ record { answer = Refused BadState; state = s; image = c.image; buffer = c.reply }
-  unfolding commandCall commandRows lentRows lowest
-  bad-call c = rw bad
+module _ (s : State) (bad : good_state s ≡ false) where
+  bad_call : (c : CommandArgs) → command_call s c ≡ record { answer = Refused BadState; state = s; image = c.image; buffer = c.reply }
+  unfolding command_call command_rows lent_rows lowest
+  bad_call c = rw bad
 
-  bad-single : (c : CommandArgs) → onState s c ≡ record { number = 1; length = 0; state = s; image = c.image; reply = c.reply }
-  bad-single c = rw (bad-call c)
+  bad_single : (c : CommandArgs) → on_state s c ≡ record { number = 1; length = 0; state = s; image = c.image; reply = c.reply }
+  bad_single c = rw (bad_call c)
 
 -- THE LENT LISTS
 
@@ -50,28 +50,28 @@ module _ {A : Type 0} (lent each : List A) (fits : length each ≤ length lent) 
             subst (λ (x : ℕ). get_or (filled lent each) x d ≡ get_or lent x d) e (get_or-append-add each (drop (length each) lent) j d ∙ get_or-drop (length each) lent j d);
       }
 
-numbers-are : (rs : List ItemAnswer) (k : ℕ) → (length (numbersOf rs) ≡ length rs) × (get_or (numbersOf rs) k 0 ≡ (get_or rs k noAnswer).number)
-numbers-are [] k = (refl, refl)
-numbers-are (r ∷ rs) zero = (ap suc (numbers-are rs 0).0, refl)
-numbers-are (r ∷ rs) (suc k) = (ap suc (numbers-are rs k).0, (numbers-are rs k).1)
+numbers_are : (rs : List ItemAnswer) (k : ℕ) → (length (numbers_of rs) ≡ length rs) × (get_or (numbers_of rs) k 0 ≡ (get_or rs k no_answer).number)
+numbers_are [] k = (refl, refl)
+numbers_are (r ∷ rs) zero = (ap suc (numbers_are rs 0).0, refl)
+numbers_are (r ∷ rs) (suc k) = (ap suc (numbers_are rs k).0, (numbers_are rs k).1)
 
-lengths-are : (rs : List ItemAnswer) (k : ℕ) → (length (lengthsOf rs) ≡ length rs) × (get_or (lengthsOf rs) k 0 ≡ (get_or rs k noAnswer).length)
-lengths-are [] k = (refl, refl)
-lengths-are (r ∷ rs) zero = (ap suc (lengths-are rs 0).0, refl)
-lengths-are (r ∷ rs) (suc k) = (ap suc (lengths-are rs k).0, (lengths-are rs k).1)
+lengths_are : (rs : List ItemAnswer) (k : ℕ) → (length (lengths_of rs) ≡ length rs) × (get_or (lengths_of rs) k 0 ≡ (get_or rs k no_answer).length)
+lengths_are [] k = (refl, refl)
+lengths_are (r ∷ rs) zero = (ap suc (lengths_are rs 0).0, refl)
+lengths_are (r ∷ rs) (suc k) = (ap suc (lengths_are rs k).0, (lengths_are rs k).1)
 
 lists : LentLists
-lists = record { records = filled_is; fills = filled_is; numbers = numbers-are; lengths = lengths-are }
+lists = record { records = filled_is; fills = filled_is; numbers = numbers_are; lengths = lengths_are }
 
 pub promises : Promises
 promises =
     record {
-      in_order = command-in-order;
-      in-plain = in-plain;
+      in_order_lem = command_in_order;
+      in_plain = in_plain;
       lists = lists;
-      one-command = command-in-order.one;
+      one_command = command_in_order.one;
       left_as = λ o s image replies h. h;
-      unwritten = unwritten command-in-order;
-      beyond = beyond command-in-order;
-      not_good = λ s a records bad. all-refused onState s reply-kept (bad-single s bad) a records;
+      unwritten = unwritten command_in_order;
+      beyond = beyond command_in_order;
+      not_good = λ s a records bad. all_refused on_state s reply_kept (bad_single s bad) a records;
     }

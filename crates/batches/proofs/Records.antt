@@ -12,45 +12,45 @@ use lib.Dec.{ltb}
 use lib.ListN.{length, get_or, set, take, drop, length-append, length-map, get_or-append, get_or-map}
 use lib.Seq.{length-take-le, take-length, take-suc, drop-cons, set_at, append_snoc}
 use borrow.Author.Tests.{ltb-false, lt-ltb, le-ltb}
-use Rattle.lists.proofs.Splice.{fill-turn}
-use Rattle.lists.proofs.Tests.{either, by-lt}
+use Rattle.lists.proofs.Splice.{fill_turn}
+use Rattle.lists.proofs.Tests.{either, by_lt}
 use Rattle.rules.specs.Commands.{CommandArgs}
-use Rattle.rules.specs.Results.{verdictNumber}
-use Rattle.answers.specs.Records.{recordAt, putRecords}
+use Rattle.rules.specs.Results.{verdict_number}
+use Rattle.answers.specs.Records.{record_at, put_records}
 use Rattle.answers.specs.declared.Answered.{Answered}
 use Rattle.answers.specs.declared.ItemAnswer.{ItemAnswer}
-use Rattle.batches.specs.Batch.{BatchArgs, Single, items_of, unfit, leftBy, Batch, batch, filled, numbersOf, lengthsOf, Answers}
+use Rattle.batches.specs.Batch.{BatchArgs, Single, items_of, unfit, left_by, Batch, batch, filled, numbers_of, lengths_of, Answers}
 use Rattle.batches.proofs.InPlain.{fits_out}
 
 -- A FIELD OF EACH RECORD
 
-pub numbers-map : (xs : List ItemAnswer) → numbersOf xs ≡ map (λ r. r.number) xs
-numbers-map [] = refl
-numbers-map (r ∷ rs) = rw (numbers-map rs)
+pub numbers_map : (xs : List ItemAnswer) → numbers_of xs ≡ map (λ r. r.number) xs
+numbers_map [] = refl
+numbers_map (r ∷ rs) = rw (numbers_map rs)
 
-pub lengths-map : (xs : List ItemAnswer) → lengthsOf xs ≡ map (λ r. r.length) xs
-lengths-map [] = refl
-lengths-map (r ∷ rs) = rw (lengths-map rs)
+pub lengths_map : (xs : List ItemAnswer) → lengths_of xs ≡ map (λ r. r.length) xs
+lengths_map [] = refl
+lengths_map (r ∷ rs) = rw (lengths_map rs)
 
 -- one store of a loop that fills a lent list with a field of each record
-field-more : (f : ItemAnswer → ℕ) (l : List ℕ) (xs : List ItemAnswer) (r : ItemAnswer) (i : ℕ) → length xs ≡ i → i < length l
+field_more : (f : ItemAnswer → ℕ) (l : List ℕ) (xs : List ItemAnswer) (r : ItemAnswer) (i : ℕ) → length xs ≡ i → i < length l
     → set (filled l (map f xs)) i (f r) ≡ filled l (map f (xs ++ (r ∷ [])))
-field-more f l xs r i e h =
+field_more f l xs r i e h =
     rw (map-append f xs (r ∷ []), length-append (map f xs) (f r ∷ []), length-map xs f, e)
-    (fill-turn (map f xs) l i (f r) (length-map xs f ∙ e) h)
+    (fill_turn (map f xs) l i (f r) (length-map xs f ∙ e) h)
 
 module _ (l : List ℕ) (xs : List ItemAnswer) (r : ItemAnswer) (i : ℕ) (e : length xs ≡ i) (h : i < length l) where
-  pub numbers_more : set (filled l (numbersOf xs)) i r.number ≡ filled l (numbersOf (xs ++ (r ∷ [])))
-  numbers_more = rw (numbers-map xs, numbers-map (xs ++ (r ∷ []))) (field-more (λ r. r.number) l xs r i e h)
+  pub numbers_more : set (filled l (numbers_of xs)) i r.number ≡ filled l (numbers_of (xs ++ (r ∷ [])))
+  numbers_more = rw (numbers_map xs, numbers_map (xs ++ (r ∷ []))) (field_more (λ r. r.number) l xs r i e h)
 
-  pub lengths-more : set (filled l (lengthsOf xs)) i r.length ≡ filled l (lengthsOf (xs ++ (r ∷ [])))
-  lengths-more = rw (lengths-map xs, lengths-map (xs ++ (r ∷ []))) (field-more (λ r. r.length) l xs r i e h)
+  pub lengths_more : set (filled l (lengths_of xs)) i r.length ≡ filled l (lengths_of (xs ++ (r ∷ [])))
+  lengths_more = rw (lengths_map xs, lengths_map (xs ++ (r ∷ []))) (field_more (λ r. r.length) l xs r i e h)
 
 -- an answer for each item
-pub answers-length : {S : Type 0} (call : S → CommandArgs → Single S) (a : BatchArgs) (s : S) (k : ℕ) → length (leftBy call a s k).answers ≡ k
-unfolding leftBy
-answers-length call a s zero = refl
-answers-length call a s (suc k) = length-append (leftBy call a s k).answers _ ∙ rw (answers-length call a s k, add-one)
+pub answers_length : {S : Type 0} (call : S → CommandArgs → Single S) (a : BatchArgs) (s : S) (k : ℕ) → length (left_by call a s k).answers ≡ k
+unfolding left_by
+answers_length call a s zero = refl
+answers_length call a s (suc k) = length-append (left_by call a s k).answers _ ∙ rw (answers_length call a s k, add-one)
 
 -- HOW MANY ANSWERS
 
@@ -58,33 +58,33 @@ module _ (a : BatchArgs) (records : ℕ) where
   same_test : ltb 64 (items_of a) ≡ false → ltb (min records 64) (items_of a) ≡ ltb records (items_of a)
   same_test e =
       let few : items_of a ≤ 64 = ltb-false 64 (items_of a) e in
-      by-lt records (items_of a)
+      by_lt records (items_of a)
       (λ h. rw (lt-ltb records (items_of a) h, lt-ltb (min records 64) (items_of a) (omega arith)))
       (λ h. rw (le-ltb records (items_of a) h, le-ltb (min records 64) (items_of a) (omega arith)))
 
-  same-unfit : unfit a (min records 64) ≡ unfit a records
+  same_unfit : unfit a (min records 64) ≡ unfit a records
   unfolding unfit
-  same-unfit = either (ltb 64 (items_of a)) (λ e. rw e) (λ e. rw (e, same_test e))
+  same_unfit = either (ltb 64 (items_of a)) (λ e. rw e) (λ e. rw (e, same_test e))
 
 module _ {S : Type 0} (call : S → CommandArgs → Single S) (s : S) (a : BatchArgs) (records : ℕ) where
   -- more than 64 answer records are no better than 64
-  pub same-batch : batch call s a (min records 64) ≡ batch call s a records
+  pub same_batch : batch call s a (min records 64) ≡ batch call s a records
   unfolding batch
-  same-batch = rw (same-unfit a records)
+  same_batch = rw (same_unfit a records)
 
   -- an answer for each item, or none
   pub record Count (o : Batch S) : Type 0 where
-    pub done : verdictNumber o.verdict ≡ 0 → items_of a ≡ length o.left.answers
-    pub refused : verdictNumber o.verdict ≢ 0 → 0 ≡ length o.left.answers
+    pub done : verdict_number o.verdict ≡ 0 → items_of a ≡ length o.left.answers
+    pub refused : verdict_number o.verdict ≢ 0 → 0 ≡ length o.left.answers
     pub few : length o.left.answers ≤ records
 
   pub count : Count (batch call s a records)
-  unfolding batch leftBy
+  unfolding batch left_by
   count =
       either (unfit a records)
       (λ e. rw e record { done = λ h. absurd (omega arith); refused = λ h. refl; few = omega arith })
       (λ e.
-      let long : length (leftBy call a s (items_of a)).answers ≡ items_of a = answers-length call a s (items_of a) in
+      let long : length (left_by call a s (items_of a)).answers ≡ items_of a = answers_length call a s (items_of a) in
       rw e record { done = λ h. sym long; refused = λ h. absurd (h refl); few = rw long (fits_out a records e).room })
 
 -- ANSWERS BY VALUE
@@ -93,18 +93,18 @@ abbrev none : ItemAnswer
 none = record { number = 0; length = 0 }
 
 -- whose numbers and lengths begin with those of these records
-module _ (a : Answered) (each : List ItemAnswer) (ns ls : List ℕ) (numbers : a.numbers ≡ numbersOf each ++ ns) (lengths : a.lengths ≡ lengthsOf each ++ ls) where
+module _ (a : Answered) (each : List ItemAnswer) (ns ls : List ℕ) (numbers : a.numbers ≡ numbers_of each ++ ns) (lengths : a.lengths ≡ lengths_of each ++ ls) where
   field_at : (f : ItemAnswer → ℕ) (rest : List ℕ) (k : ℕ) → k < length each → get_or (map f each ++ rest) k (f none) ≡ f (get_or each k none)
   field_at f rest k h = get_or-append (map f each) rest (f none) k (rw length-map h) ∙ get_or-map f each k none
 
-  record_is : (k : ℕ) → k < length each → recordAt a k ≡ get_or each k none
+  record_is : (k : ℕ) → k < length each → record_at a k ≡ get_or each k none
   record_is k h =
-      let n : get_or a.numbers k 0 ≡ (get_or each k none).number = rw (numbers, numbers-map each) (field_at (λ r. r.number) ns k h) in
-      let l : get_or a.lengths k 0 ≡ (get_or each k none).length = rw (lengths, lengths-map each) (field_at (λ r. r.length) ls k h) in
+      let n : get_or a.numbers k 0 ≡ (get_or each k none).number = rw (numbers, numbers_map each) (field_at (λ r. r.number) ns k h) in
+      let l : get_or a.lengths k 0 ≡ (get_or each k none).length = rw (lengths, lengths_map each) (field_at (λ r. r.length) ls k h) in
       rw (n, l)
 
   module _ (lent : List ItemAnswer) where
-    put_first : (k : ℕ) → k ≤ length each → k ≤ length lent → putRecords lent a k ≡ take k each ++ drop k lent
+    put_first : (k : ℕ) → k ≤ length each → k ≤ length lent → put_records lent a k ≡ take k each ++ drop k lent
     put_first zero h g = refl
     put_first (suc k) h g =
         rw (put_first k (omega arith) (omega arith), record_is k (omega arith), drop-cons lent k none (omega arith), take-suc each k none (omega arith))
@@ -114,4 +114,4 @@ module _ (a : Answered) (each : List ItemAnswer) (ns ls : List ℕ) (numbers : a
   pub gives : a.filled ≡ length each → (records : ℕ) → length each ≤ records → Answers a records each
   gives e records h lent long =
       let few : length each ≤ length lent = omega arith in
-      ap (λ (n : ℕ). putRecords lent a (min n (length lent))) e ∙ rw (min-eq_left few, put_first lent (length each) (omega arith) few, take-length)
+      ap (λ (n : ℕ). put_records lent a (min n (length lent))) e ∙ rw (min-eq_left few, put_first lent (length each) (omega arith) few, take-length)

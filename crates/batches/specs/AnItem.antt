@@ -1,11 +1,11 @@
 -- AN ITEM IS ITS BYTES: a batch of one packet, wherever it stands in the buffer and however long it is, is the command call with that packet
 -- (paper 02, A1). No start is added to a length here.
 use Rattle.std.specs.Prelude.{◌≡◌, List, [], ◌∷◌, ◌++◌, ℕ, ◌≤◌, length, take, drop}
-use Rattle.rules.specs.Commands.{CommandArgs, commandCall}
-use Rattle.rules.specs.Results.{answerNumber, answerLength}
+use Rattle.rules.specs.Commands.{CommandArgs, command_call}
+use Rattle.rules.specs.Results.{answer_number, answer_length}
 use Rattle.rules.specs.declared.State.{State}
 use Rattle.rules.specs.declared.Verdict.TheVariants.{Accepted}
-use Rattle.batches.specs.Batch.{lends, onState, batch}
+use Rattle.batches.specs.Batch.{lends, on_state, batch}
 
 -- what the command call is lent: the packet, and the first 32 bytes of the reply buffer
 abbrev pub alone : List ℕ → List ℕ → List ℕ → List ℕ → CommandArgs
@@ -14,18 +14,18 @@ alone p symbols image replies = record { packet = p; symbols = symbols; image = 
 abbrev pub AnItem : Type 0
 AnItem =
     (s : State) (before p after symbols image replies : List ℕ) (records : ℕ) → 1 ≤ records → 32 ≤ length replies
-    → batch onState s (lends (before ++ p ++ after) (length before ∷ []) (length p ∷ []) symbols image replies) records
+    → batch on_state s (lends (before ++ p ++ after) (length before ∷ []) (length p ∷ []) symbols image replies) records
     ≡ record {
       verdict = Accepted;
       left =
           record {
-            state = (commandCall s (alone p symbols image replies)).state;
-            image = (commandCall s (alone p symbols image replies)).image;
-            replies = (commandCall s (alone p symbols image replies)).buffer ++ drop 32 replies;
+            state = (command_call s (alone p symbols image replies)).state;
+            image = (command_call s (alone p symbols image replies)).image;
+            replies = (command_call s (alone p symbols image replies)).buffer ++ drop 32 replies;
             answers =
                 record {
-                  number = answerNumber (commandCall s (alone p symbols image replies)).answer;
-                  length = answerLength (commandCall s (alone p symbols image replies)).answer;
+                  number = answer_number (command_call s (alone p symbols image replies)).answer;
+                  length = answer_length (command_call s (alone p symbols image replies)).answer;
                 }
                 ∷ [];
           };

@@ -3,7 +3,7 @@ ghost use Rattle.std.specs.Prelude.{◌≡◌, cond, min};
 ghost use Rattle.rules.specs.declared.Refusal.TheVariants.{BufferLength};
 ghost use Rattle.rules.specs.declared.Verdict.TheVariants.{Accepted, Rejected};
 ghost use Rattle.batches.specs.AnItem.{AnItem};
-ghost use Rattle.batches.specs.Batch.{bytesFrom, unfitBy};
+ghost use Rattle.batches.specs.Batch.{bytes_from, unfit_by};
 ghost use Rattle.batches.specs.Examples.{BatchExamples};
 ghost use Rattle.batches.specs.InOrder.{Promises};
 ghost use Rattle.batches.specs.Lists.{Demand3WithBatches, ItemsAreCalls, StaysGood};
@@ -25,7 +25,7 @@ pub fn lesser(a: usize, b: usize) -> usize
 
 // 3, or no refusal, for so many starts and lengths, answer records and bytes of the reply buffer.
 pub fn batch_verdict(starts: usize, lengths: usize, records: usize, replies: usize) -> Verdict
-    ensures { result ≡ cond (unfitBy starts lengths records replies) (Rejected BufferLength) Accepted }
+    ensures { result ≡ cond (unfit_by starts lengths records replies) (Rejected BufferLength) Accepted }
 {
     if 64 < starts {
         return Verdict::Rejected(Refusal::BufferLength);
@@ -38,7 +38,7 @@ pub fn batch_verdict(starts: usize, lengths: usize, records: usize, replies: usi
 
 // The packet of an item: n bytes from `start` on. Where they are not all there, it is empty.
 pub fn bytes_from(bytes: &[u8], start: u32, n: u32) -> &[u8]
-    ensures { result.now ≡ bytesFrom bytes.now start n }
+    ensures { result.now ≡ bytes_from bytes.now start n }
 {
     let from = start as usize;
     let end = from + n as usize;

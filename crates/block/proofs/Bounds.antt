@@ -9,7 +9,7 @@ use lib.Dec.{leb, eqb}
 use lib.ListN.{length}
 use borrow.Author.Tests.{leb-true, eqb-true, ne_eqb}
 use Rattle.lists.proofs.Tests.{and_left, and_right}
-use Rattle.block.specs.Blocks.{word, regionsBounds, placesBounds, countsBounds, isBlock}
+use Rattle.block.specs.Blocks.{word, regions_bounds, places_bounds, counts_bounds, is_block}
 
 -- four tests that all pass
 pub record Four (a b c d : Bool) : Type 0 where
@@ -18,8 +18,8 @@ pub record Four (a b c d : Bool) : Type 0 where
   pub third : c ≡ true
   pub fourth : d ≡ true
 
-pub four-out : (a b c d : Bool) → (a && b && c && d) ≡ true → Four a b c d
-four-out a b c d h =
+pub four_out : (a b c d : Bool) → (a && b && c && d) ≡ true → Four a b c d
+four_out a b c d h =
     let abc = and_left (a && b && c) d h in
     let ab = and_left (a && b) c abc in
     record { first = and_left a b ab; second = and_right a b ab; third = and_right (a && b) c abc; fourth = and_right (a && b && c) d h }
@@ -32,8 +32,8 @@ pub record CountsBounds (b : List ℕ) : Type 0 where
   pub refused : word b 78 ≤ 65535
   pub values : word b 79 ≤ 65535
 
-pub counts-out : (b : List ℕ) → countsBounds b ≡ true → CountsBounds b
-counts-out b h =
+pub counts_out : (b : List ℕ) → counts_bounds b ≡ true → CountsBounds b
+counts_out b h =
     let p = leb (word b 74) 255 in
     let q = leb (word b 75) 65535 in
     let r = leb (word b 76) 65535 in
@@ -41,7 +41,7 @@ counts-out b h =
     let t = leb (word b 78) 65535 in
     let v = leb (word b 79) 65535 in
     let five = and_left (p && q && r && s && t) v h in
-    let f = four-out p q r s (and_left (p && q && r && s) t five) in
+    let f = four_out p q r s (and_left (p && q && r && s) t five) in
     record {
       last = leb-true (word b 74) 255 f.first;
       replies = leb-true (word b 75) 65535 f.second;
@@ -53,28 +53,28 @@ counts-out b h =
 
 pub record BlockBounds (b : List ℕ) : Type 0 where
   pub words : length b ≡ 80
-  pub regions : regionsBounds b 1 (word b 0) ≡ true
+  pub regions : regions_bounds b 1 (word b 0) ≡ true
   pub unit : word b 53 ≤ 255
-  pub places : placesBounds b ≡ true
+  pub places : places_bounds b ≡ true
   pub counts : CountsBounds b
 
-pub block_out : (b : List ℕ) → isBlock b ≡ true → BlockBounds b
-unfolding isBlock
+pub block_out : (b : List ℕ) → is_block b ≡ true → BlockBounds b
+unfolding is_block
 block_out b h =
     let n = eqb (length b) 80 in
     let u = leb (word b 53) 255 in
-    let rest = regionsBounds b 1 (word b 0) && u && placesBounds b && countsBounds b in
-    let f = four-out (regionsBounds b 1 (word b 0)) u (placesBounds b) (countsBounds b) (and_right n rest h) in
+    let rest = regions_bounds b 1 (word b 0) && u && places_bounds b && counts_bounds b in
+    let f = four_out (regions_bounds b 1 (word b 0)) u (places_bounds b) (counts_bounds b) (and_right n rest h) in
     record {
       words = eqb-true (length b) 80 (and_left n rest h);
       regions = f.first;
       unit = leb-true (word b 53) 255 f.second;
       places = f.third;
-      counts = counts-out b f.fourth;
+      counts = counts_out b f.fourth;
     }
 
 -- A BLOCK OF ANOTHER LENGTH
 
-pub not-block : (b : List ℕ) → length b ≢ 80 → isBlock b ≡ false
-unfolding isBlock
-not-block b n = rw (ne_eqb (length b) 80 n)
+pub not_block : (b : List ℕ) → length b ≢ 80 → is_block b ≡ false
+unfolding is_block
+not_block b n = rw (ne_eqb (length b) 80 n)

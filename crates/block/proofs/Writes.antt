@@ -8,31 +8,31 @@ use native.Mathlib.Omega.{arith}
 use lib.ListN.{length, set, take, drop, length-append, length-take, length-drop, drop_of_length-le, take-append-drop}
 use lib.Seq.{take-append_seam, take-append-le, drop-append-le, take-append-add, drop-append-add}
 use Rattle.lists.specs.Splice.{splice}
-use Rattle.lists.proofs.Splice.{splice-length}
+use Rattle.lists.proofs.Splice.{splice_length}
 
 -- A WRITE IN TWO LISTS, one after the other: in the first, in the second, and of all of the second
 
 module _ (a z v : List ℕ) where
-  pub write-left : (at : ℕ) → at + length v ≤ length a → splice (a ++ z) at v ≡ splice a at v ++ z
+  pub write_left_lem : (at : ℕ) → at + length v ≤ length a → splice (a ++ z) at v ≡ splice a at v ++ z
   unfolding splice
-  write-left at h =
+  write_left_lem at h =
       let i : at ≤ length a = omega arith in
       rw (take-append-le at a z i, drop-append-le (at + length v) a z h, append_assoc, append_assoc)
 
-  pub write-right : (n at : ℕ) → length a ≡ n → splice (a ++ z) (n + at) v ≡ a ++ splice z at v
+  pub write_right : (n at : ℕ) → length a ≡ n → splice (a ++ z) (n + at) v ≡ a ++ splice z at v
   unfolding splice
-  write-right n at e =
+  write_right n at e =
       let m : length a + at + length v ≡ length a + (at + length v) = omega arith in
       rw (← e, take-append-add, m, drop-append-add, append_assoc)
 
-  pub write-end : (n : ℕ) → length a ≡ n → length z ≤ length v → splice (a ++ z) n v ≡ a ++ v
+  pub write_end : (n : ℕ) → length a ≡ n → length z ≤ length v → splice (a ++ z) n v ≡ a ++ v
   unfolding splice
-  write-end n e h =
+  write_end n e h =
       let k : length (a ++ z) ≤ length a + length v = simp length-append (omega arith) in
       rw (← e, take-append_seam, drop_of_length-le (a ++ z) k, append-nil)
 
-pub set-right : (a z : List ℕ) (n k x : ℕ) → length a ≡ n → set (a ++ z) (n + k) x ≡ a ++ set z k x
-set-right a z n k x e = rw (← e) (past a)
+pub set_right : (a z : List ℕ) (n k x : ℕ) → length a ≡ n → set (a ++ z) (n + k) x ≡ a ++ set z k x
+set_right a z n k x e = rw (← e) (past a)
   where
     past : (a : List ℕ) → set (a ++ z) (length a + k) x ≡ a ++ set z k x
     past [] = let e : 0 + k ≡ k = omega arith in rw e
@@ -40,9 +40,9 @@ set-right a z n k x e = rw (← e) (past a)
 
 -- A WRITE UP TO THE END, and of the list's own elements
 
-pub write-to-end : (a v : List ℕ) (at : ℕ) → length a ≤ at + length v → splice a at v ≡ take at a ++ v
+pub write_to_end : (a v : List ℕ) (at : ℕ) → length a ≤ at + length v → splice a at v ≡ take at a ++ v
 unfolding splice
-write-to-end a v at h = rw (drop_of_length-le a h, append-nil)
+write_to_end a v at h = rw (drop_of_length-le a h, append-nil)
 
 module _ (l : List ℕ) (at n : ℕ) (low : at ≤ n) (fits : n ≤ length l) where
   pub front_of : take at l ≡ take at (take n l)
@@ -50,19 +50,19 @@ module _ (l : List ℕ) (at n : ℕ) (low : at ≤ n) (fits : n ≤ length l) wh
       let k : at ≤ length (take n l) = simp length-take (omega arith) in
       ap (take at) (sym (take-append-drop n l)) ∙ take-append-le at (take n l) (drop n l) k
 
-  pub front-whole : take at l ++ drop at (take n l) ≡ take n l
-  front-whole = ap (λ (u : List ℕ). u ++ drop at (take n l)) front_of ∙ take-append-drop at (take n l)
+  pub front_whole : take at l ++ drop at (take n l) ≡ take n l
+  front_whole = ap (λ (u : List ℕ). u ++ drop at (take n l)) front_of ∙ take-append-drop at (take n l)
 
-  pub own-written : splice l at (drop at (take n l)) ≡ l
+  pub own_written : splice l at (drop at (take n l)) ≡ l
   unfolding splice
-  own-written =
+  own_written =
       let e : at + length (drop at (take n l)) ≡ n = simp (length-drop, length-take) (omega arith) in
-      rw (e, ← append_assoc (take at l) (drop at (take n l)) (drop n l), front-whole) (take-append-drop n l)
+      rw (e, ← append_assoc (take at l) (drop at (take n l)) (drop n l), front_whole) (take-append-drop n l)
 
 -- the first n elements after a write that ends there
-pub front-written : (l : List ℕ) (at : ℕ) (v : List ℕ) (n : ℕ) → at + length v ≡ n → n ≤ length l → take n (splice l at v) ≡ take at (take n l) ++ v
+pub front_written : (l : List ℕ) (at : ℕ) (v : List ℕ) (n : ℕ) → at + length v ≡ n → n ≤ length l → take n (splice l at v) ≡ take at (take n l) ++ v
 unfolding splice
-front-written l at v n e fits =
+front_written l at v n e fits =
     let k : length (take at l ++ v) ≡ n = simp (length-append, length-take) (omega arith) in
     rw (← front_of l at n (omega arith) fits, e, ← append_assoc (take at l) v (drop n l))
     (ap (λ (x : ℕ). take x ((take at l ++ v) ++ drop n l)) (sym k) ∙ take-append_seam (take at l ++ v) (drop n l))
@@ -71,20 +71,20 @@ front-written l at v n e fits =
 
 module _ (f : ℕ) (v : List ℕ) (end : ℕ) (e : f + length v ≡ end) where
   module _ (a z : List ℕ) (n : length a ≡ end) where
-    written-length : length (splice a f v) ≡ end
-    written-length = splice-length a f v (omega arith) ∙ n
+    written_length : length (splice a f v) ≡ end
+    written_length = splice_length a f v (omega arith) ∙ n
 
-    parts-apart : (k : ℕ) (w : List ℕ) → splice (splice (a ++ z) (end + k) w) f v ≡ splice (splice (a ++ z) f v) (end + k) w
-    parts-apart k w =
-        ap (λ (u : List ℕ). splice u f v) (write-right a z w end k n)
-        ∙ write-left a (splice z k w) v f (omega arith)
-        ∙ sym (ap (λ (u : List ℕ). splice u (end + k) w) (write-left a z v f (omega arith)) ∙ write-right (splice a f v) z w end k written-length)
+    parts_apart : (k : ℕ) (w : List ℕ) → splice (splice (a ++ z) (end + k) w) f v ≡ splice (splice (a ++ z) f v) (end + k) w
+    parts_apart k w =
+        ap (λ (u : List ℕ). splice u f v) (write_right a z w end k n)
+        ∙ write_left_lem a (splice z k w) v f (omega arith)
+        ∙ sym (ap (λ (u : List ℕ). splice u (end + k) w) (write_left_lem a z v f (omega arith)) ∙ write_right (splice a f v) z w end k written_length)
 
     part_apart : (k x : ℕ) → splice (set (a ++ z) (end + k) x) f v ≡ set (splice (a ++ z) f v) (end + k) x
     part_apart k x =
-        ap (λ (u : List ℕ). splice u f v) (set-right a z end k x n)
-        ∙ write-left a (set z k x) v f (omega arith)
-        ∙ sym (ap (λ (u : List ℕ). set u (end + k) x) (write-left a z v f (omega arith)) ∙ set-right (splice a f v) z end k x written-length)
+        ap (λ (u : List ℕ). splice u f v) (set_right a z end k x n)
+        ∙ write_left_lem a (set z k x) v f (omega arith)
+        ∙ sym (ap (λ (u : List ℕ). set u (end + k) x) (write_left_lem a z v f (omega arith)) ∙ set_right (splice a f v) z end k x written_length)
 
   module _ (l : List ℕ) (long : end ≤ length l) (at : ℕ) (past : end ≤ at) where
     front_length : length (take end l) ≡ end
@@ -94,10 +94,10 @@ module _ (f : ℕ) (v : List ℕ) (end : ℕ) (e : f + length v ≡ end) where
     writes_apart w =
         let k : at ≡ end + (at - end) = omega arith in
         let u = take-append-drop end l in
-        rw k (rw u at (parts-apart (take end l) (drop end l) front_length (at - end) w))
+        rw k (rw u at (parts_apart (take end l) (drop end l) front_length (at - end) w))
 
-    pub write-set-apart : (x : ℕ) → splice (set l at x) f v ≡ set (splice l f v) at x
-    write-set-apart x =
+    pub write_set_apart : (x : ℕ) → splice (set l at x) f v ≡ set (splice l f v) at x
+    write_set_apart x =
         let k : at ≡ end + (at - end) = omega arith in
         let u = take-append-drop end l in
         rw k (rw u at (part_apart (take end l) (drop end l) front_length (at - end) x))

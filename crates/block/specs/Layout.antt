@@ -1,7 +1,7 @@
 -- What each word of the state block is, by its index, as c/leatgarnet.h lists them.
 use Rattle.std.specs.Prelude.{◌≡◌, cond, ℕ, ◌+◌, ◌*◌, ◌<◌, length, get_or}
-use Rattle.rules.specs.Regions.{start_of, regionAt}
-use Rattle.rules.specs.States.{poolAt, contextAt}
+use Rattle.rules.specs.Regions.{start_of, region_at}
+use Rattle.rules.specs.States.{pool_at, context_at}
 use Rattle.rules.specs.declared.ActiveDump.{ActiveDump}
 use Rattle.rules.specs.declared.Context.TheVariants.{Idle, Busy}
 use Rattle.rules.specs.declared.Region.{Region}
@@ -14,15 +14,15 @@ at s i = get_or (block_of s) i 0
 pub record Layout (s : State) : Type 0 where
   pub words : length (block_of s) ≡ 80
   pub count : s.count < 4294967296 → at s 0 ≡ s.count
-  pub region-start : (i : ℕ) → i < 16 → at s (1 + 3 * i) ≡ start_of (regionAt s.regions i).range
-  pub region-size : (i : ℕ) → i < 16 → at s (2 + 3 * i) ≡ (regionAt s.regions i).range.words
+  pub region_start : (i : ℕ) → i < 16 → at s (1 + 3 * i) ≡ start_of (region_at s.regions i).range
+  pub region_size : (i : ℕ) → i < 16 → at s (2 + 3 * i) ≡ (region_at s.regions i).range.words
   -- 1 for the load right and 2 for the dump right
-  pub region-rights : (i : ℕ) → i < 16 → at s (3 + 3 * i) ≡ cond (regionAt s.regions i).load 1 0 + cond (regionAt s.regions i).dump 2 0
-  pub pool-0 : (at s 49 ≡ start_of (poolAt s.pools 0)) × (at s 50 ≡ (poolAt s.pools 0).words)
-  pub pool-1 : (at s 51 ≡ start_of (poolAt s.pools 1)) × (at s 52 ≡ (poolAt s.pools 1).words)
+  pub region_rights : (i : ℕ) → i < 16 → at s (3 + 3 * i) ≡ cond (region_at s.regions i).load 1 0 + cond (region_at s.regions i).dump 2 0
+  pub pool_0 : (at s 49 ≡ start_of (pool_at s.pools 0)) × (at s 50 ≡ (pool_at s.pools 0).words)
+  pub pool_1 : (at s 51 ≡ start_of (pool_at s.pools 1)) × (at s 52 ≡ (pool_at s.pools 1).words)
   pub unit : at s 53 ≡ s.unit
-  pub idle : (i k : ℕ) → i < 4 → k < 5 → contextAt s.places i ≡ Idle → at s (54 + 5 * i + k) ≡ 0
-  pub busy : (i : ℕ) (d : ActiveDump) → i < 4 → contextAt s.places i ≡ Busy d
+  pub idle : (i k : ℕ) → i < 4 → k < 5 → context_at s.places i ≡ Idle → at s (54 + 5 * i + k) ≡ 0
+  pub busy : (i : ℕ) (d : ActiveDump) → i < 4 → context_at s.places i ≡ Busy d
       → (at s (54 + 5 * i) ≡ 1) × (at s (55 + 5 * i) ≡ d.transaction) × (at s (56 + 5 * i) ≡ start_of d.range) × (at s (57 + 5 * i) ≡ d.range.words)
       × (at s (58 + 5 * i) ≡ d.sent)
   pub last : at s 74 ≡ s.last

@@ -2,7 +2,7 @@
 // says of a state is in specs/Blocks.antt.
 ghost use Rattle.std.specs.Prelude.{◌≡◌, ◌+◌, ◌%◌, ◌≤◌, length, set};
 ghost use Rattle.lists.specs.Splice.{splice};
-ghost use Rattle.block.specs.Blocks.{word, rangeIn};
+ghost use Rattle.block.specs.Blocks.{word, range_in};
 ghost use Rattle.block.specs.RoundTrip.{RoundTrip};
 ghost use Rattle.block.specs.Layout.{Layout};
 ghost use Rattle.block.specs.Changes.{BlockChanges};
@@ -21,7 +21,7 @@ pub fn word_at(b: &[u32], i: usize) -> u32
 
 // The range in words `at` and `at + 1`.
 pub fn range_in(b: &[u32], at: usize) -> Range
-    ensures { result ≡ rangeIn b.now at }
+    ensures { result ≡ range_in b.now at }
 {
     if b.len() <= at {
         return Range {

@@ -5,10 +5,10 @@ use mathlib.Core.List.{List, ◌∷◌}
 use Prim.Native.Nat.{ℕ, zero, suc, ◌+◌, ◌≤◌}
 use native.Mathlib.Omega.{arith}
 use lib.ListN.{take}
-use Rattle.wire.specs.Bytes.{beAt, wordsAt}
+use Rattle.wire.specs.Bytes.{be_at, words_at}
 
-pub first-words : (n m : ℕ) (p : List ℕ) (at : ℕ) → n ≤ m → take n (wordsAt m p at) ≡ wordsAt n p at
-unfolding wordsAt
-first-words zero m p at h = refl
-first-words (suc n) zero p at h = absurd (omega arith)
-first-words (suc n) (suc m) p at h = ap (λ (ws : List ℕ). beAt 4 p at ∷ ws) (first-words n m p (at + 4) (omega arith))
+pub first_words_lem : (n m : ℕ) (p : List ℕ) (at : ℕ) → n ≤ m → take n (words_at m p at) ≡ words_at n p at
+unfolding words_at
+first_words_lem zero m p at h = refl
+first_words_lem (suc n) zero p at h = absurd (omega arith)
+first_words_lem (suc n) (suc m) p at h = ap (λ (ws : List ℕ). be_at 4 p at ∷ ws) (first_words_lem n m p (at + 4) (omega arith))

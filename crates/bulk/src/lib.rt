@@ -1,9 +1,9 @@
 // The bulk work: a dump packet written into a buffer, a load written into the image, and words cut out of it.
 ghost use Rattle.std.specs.Prelude.{◌≡◌, true, false, [], ◌+◌, ◌*◌, ◌≤◌, ◌<◌, min, length, take, drop};
 ghost use Rattle.lists.specs.Splice.{splice};
-ghost use Rattle.wire.specs.Bytes.{beAt, word_bytes, wordsAt};
-ghost use Rattle.rules.specs.Packets.{dataWords, nameWords};
-ghost use Rattle.bulk.specs.DumpBytes.{headBytes, dumpPacketBytes, PacketFits, packetFits};
+ghost use Rattle.wire.specs.Bytes.{be_at, word_bytes, words_at};
+ghost use Rattle.rules.specs.Packets.{data_words, name_words};
+ghost use Rattle.bulk.specs.DumpBytes.{head_bytes, dump_packet_bytes, PacketFits, packet_fits};
 
 use rules::{DumpPacket, WordIndex};
 use wire::{get32, put_words, wide32};
@@ -11,7 +11,7 @@ use wire::{get32, put_words, wide32};
 // The header of a dump packet, as seven words.
 fn head_words(f: DumpPacket) -> [u32; 7]
     requires { (f.header.count ≤ 16383) × (f.header.unit ≤ 15) × (f.header.transaction ≤ 4095) × (f.words ≤ 1016) }
-    ensures { word_bytes result ≡ headBytes f f.words }
+    ensures { word_bytes result ≡ head_bytes f f.words }
 {
     let count = 49152 + f.header.count as u32;
     let size = 28 + 4 * f.words - 7;
@@ -31,7 +31,7 @@ fn head_words(f: DumpPacket) -> [u32; 7]
 
 // Whether each field fits its bits, and the packet holds n words and fits a buffer of `room` bytes.
 fn packet_fits(f: DumpPacket, n: usize, room: usize) -> bool
-    ensures { result ≡ packetFits f n room }
+    ensures { result ≡ packet_fits f n room }
 {
     let words = f.words as usize;
     (f.header.count <= 16383)
@@ -44,7 +44,7 @@ fn packet_fits(f: DumpPacket, n: usize, room: usize) -> bool
 
 // A dump packet at the start of the buffer. Where it does not fit, nothing is written.
 pub fn put_packet(buffer: &mut [u8], f: DumpPacket, words: &[u32])
-    ensures { (PacketFits f words.now buffer.old → buffer.new ≡ splice buffer.old 0 (dumpPacketBytes f words.now))
+    ensures { (PacketFits f words.now buffer.old → buffer.new ≡ splice buffer.old 0 (dump_packet_bytes f words.now))
         × ((PacketFits f words.now buffer.old → ⊥) → buffer.new ≡ buffer.old) }
 {
     if !packet_fits(f, words.len(), buffer.len()) {
@@ -59,7 +59,7 @@ pub fn put_packet(buffer: &mut [u8], f: DumpPacket, words: &[u32])
 // and what is left there is one load and one swap.
 fn word_at(packet: &[u8], at: usize) -> u32
     requires { at + 4 ≤ 60 }
-    ensures { result ≡ beAt 4 packet.now at }
+    ensures { result ≡ be_at 4 packet.now at }
 {
     if packet.len() < 60 {
         return get32(packet, at as u16);
@@ -82,7 +82,7 @@ fn has_words(length: usize, at: WordIndex, n: usize) -> bool
 // The n words of a packet from byte `at` on, from index `from` of a slice of words on.
 fn store_run(words: &mut [u32], from: usize, packet: &[u8], at: usize, n: usize)
     requires { (at + 4 * n ≤ 60) × (from + n ≤ length words.old) }
-    ensures { words.new ≡ splice words.old from (wordsAt n packet.now at) }
+    ensures { words.new ≡ splice words.old from (words_at n packet.now at) }
 {
     let mut i = 0;
     while i < n {
@@ -94,7 +94,7 @@ fn store_run(words: &mut [u32], from: usize, packet: &[u8], at: usize, n: usize)
 
 // The first n words of a load packet's data, from index `at` of the image on. Where they do not fit, nothing is written.
 pub fn store_words(image: &mut [u32], at: WordIndex, packet: &[u8], n: usize)
-    ensures { (n ≤ 11 → at.0 + n ≤ length image.old → image.new ≡ splice image.old at.0 (take n (dataWords packet.now)))
+    ensures { (n ≤ 11 → at.0 + n ≤ length image.old → image.new ≡ splice image.old at.0 (take n (data_words packet.now)))
         × ((n ≤ 11 → at.0 + n ≤ length image.old → ⊥) → image.new ≡ image.old) }
 {
     if 11 < n {
@@ -109,7 +109,7 @@ pub fn store_words(image: &mut [u32], at: WordIndex, packet: &[u8], n: usize)
 
 // The same at the start of a slice of words.
 pub fn load_words(words: &mut [u32], packet: &[u8], n: usize)
-    ensures { (n ≤ 11 → n ≤ length words.old → words.new ≡ splice words.old 0 (take n (dataWords packet.now)))
+    ensures { (n ≤ 11 → n ≤ length words.old → words.new ≡ splice words.old 0 (take n (data_words packet.now)))
         × ((n ≤ 11 → n ≤ length words.old → ⊥) → words.new ≡ words.old) }
 {
     store_words(words, WordIndex(0), packet, n);
@@ -117,7 +117,7 @@ pub fn load_words(words: &mut [u32], packet: &[u8], n: usize)
 
 // The twelve words of a packet's name field, at the start of a slice of words. Where it has fewer, nothing is written.
 pub fn name_words(words: &mut [u32], packet: &[u8])
-    ensures { (12 ≤ length words.old → words.new ≡ splice words.old 0 (nameWords packet.now))
+    ensures { (12 ≤ length words.old → words.new ≡ splice words.old 0 (name_words packet.now))
         × (length words.old < 12 → words.new ≡ words.old) }
 {
     if words.len() < 12 {

@@ -2,15 +2,15 @@
 use Rattle.std.specs.Prelude.{◌≡◌, true, false, List, [], ◌∷◌, ◌++◌, ℕ, ◌*◌, ◌-◌, ◌≤◌, ◌<◌, length, get_or, take, drop, replicate}
 use Rattle.wire.specs.Bytes.{AreBytes}
 use Rattle.rules.specs.GoodWhen.{Good}
-use Rattle.rules.specs.States.{goodState}
+use Rattle.rules.specs.States.{good_state}
 use Rattle.rules.specs.declared.State.{State}
 use Rattle.rules.specs.declared.Verdict.TheVariants.{Accepted}
-use Rattle.batches.specs.Batch.{BatchArgs, lends, onState, items_of, bytesFrom, unfit, Batch, batch}
+use Rattle.batches.specs.Batch.{BatchArgs, lends, on_state, items_of, bytes_from, unfit, Batch, batch}
 use Rattle.batches.specs.InOrder.{InOrder}
-use Rattle.block.specs.Blocks.{block_of, isBlock, state_of}
-use Rattle.block.specs.Calls.{lgCommand}
-use Rattle.lent_batch.specs.Batches.{onBlock, lgCommands}
-use Rattle.c_theorems.specs.FromC.{withUnused}
+use Rattle.block.specs.Blocks.{block_of, is_block, state_of}
+use Rattle.block.specs.Calls.{lg_command}
+use Rattle.lent_batch.specs.Batches.{on_block, lg_commands}
+use Rattle.c_theorems.specs.FromC.{with_unused}
 
 -- what a batch on a state leaves, with this block of its state
 abbrev pub in_block : (State → List ℕ) → Batch State → Batch (List ℕ)
@@ -23,17 +23,17 @@ in_block block o =
 
 pub record BatchesFromC : Type 0 where
   -- a batch: the single calls from C in order; on the block of a good state, the batch on that state
-  pub in_order : InOrder onBlock
+  pub in_order_lem : InOrder on_block
   pub commands : (s : State) → Good s → length s.regions ≡ 16 → length s.pools ≡ 2 → (a : BatchArgs) (records : ℕ) → AreBytes a.bytes
-      → lgCommands (block_of s) a records ≡ in_block block_of (batch onState s a records)
+      → lg_commands (block_of s) a records ≡ in_block block_of (batch on_state s a records)
   -- likewise with any words in the entries not in use, which stay
-  pub commands-unused : (s : State) → Good s → length s.regions ≡ 16 → length s.pools ≡ 2 → (v : List ℕ) → length v ≡ 48 - 3 * s.count
+  pub commands_unused : (s : State) → Good s → length s.regions ≡ 16 → length s.pools ≡ 2 → (v : List ℕ) → length v ≡ 48 - 3 * s.count
       → (a : BatchArgs) (records : ℕ) → AreBytes a.bytes
-      → lgCommands (withUnused s v) a records ≡ in_block (λ t. withUnused t v) (batch onState s a records)
+      → lg_commands (with_unused s v) a records ≡ in_block (λ t. with_unused t v) (batch on_state s a records)
   -- one item: the command call of C
-  pub one-command : (b bytes : List ℕ) (start n : ℕ) (symbols image replies : List ℕ) (records : ℕ) → 1 ≤ records → 32 ≤ length replies
-      → let o = lgCommand b (record { packet = bytesFrom bytes start n; symbols = symbols; image = image; reply = take 32 replies }) in
-      lgCommands b (lends bytes (start ∷ []) (n ∷ []) symbols image replies) records
+  pub one_command : (b bytes : List ℕ) (start n : ℕ) (symbols image replies : List ℕ) (records : ℕ) → 1 ≤ records → 32 ≤ length replies
+      → let o = lg_command b (record { packet = bytes_from bytes start n; symbols = symbols; image = image; reply = take 32 replies }) in
+      lg_commands b (lends bytes (start ∷ []) (n ∷ []) symbols image replies) records
       ≡ record {
         verdict = Accepted;
         left =
@@ -45,9 +45,9 @@ pub record BatchesFromC : Type 0 where
             };
       }
   -- any other block: each item 1 with length 0, and all stays as it was
-  pub no-commands : (b : List ℕ) → ((i : ℕ) → get_or b i 0 < 4294967296) → (isBlock b ≡ true → goodState (state_of b) ≡ true → ⊥)
+  pub no_commands : (b : List ℕ) → ((i : ℕ) → get_or b i 0 < 4294967296) → (is_block b ≡ true → good_state (state_of b) ≡ true → ⊥)
       → (a : BatchArgs) (records : ℕ) → unfit a records ≡ false
-      → lgCommands b a records
+      → lg_commands b a records
       ≡ record {
         verdict = Accepted;
         left =

@@ -1,20 +1,20 @@
 -- What the command writer and the two readers of the C interface (c/leatgarnet.h) leave: the number, the lent block or buffer, and the bytes.
 use Rattle.std.specs.Prelude.{cond, List, ℕ, eqb, length}
-use Rattle.rules.specs.Ground.{Wrote, writeCommand, readCommand, readingNumber, readPacket, packetNumber}
-use Rattle.rules.specs.Results.{answerNumber, answerLength}
+use Rattle.rules.specs.Ground.{Wrote, write_command, read_command, reading_number, read_packet, packet_number}
+use Rattle.rules.specs.Results.{answer_number, answer_length}
 use Rattle.rules.specs.declared.Decoded.{Decoded}
 use Rattle.rules.specs.declared.Decoded.TheVariants.{Unknown, Known}
 use Rattle.rules.specs.declared.PacketReading.{PacketReading}
 use Rattle.rules.specs.declared.PacketReading.TheVariants.{NoPacket, Packet}
 use Rattle.rules.specs.declared.Reading.{Reading}
 use Rattle.rules.specs.declared.Reading.TheVariants.{Unread, Read}
-use Rattle.ground_blocks.specs.Fields.{headerIn, commandIn, dataIn, blockWords, fieldWords}
+use Rattle.ground_blocks.specs.Fields.{header_in, command_in, data_in, block_words, field_words}
 
-abbrev pub commandWords : ℕ
-commandWords = 21
+abbrev pub command_words : ℕ
+command_words = 21
 
-abbrev pub packetWords : ℕ
-packetWords = 8
+abbrev pub packet_words : ℕ
+packet_words = 8
 
 -- A COMMAND BLOCK WRITTEN AS A PACKET
 
@@ -23,17 +23,17 @@ pub record WriteLeft : Type 0 where
   pub bytes : ℕ
   pub buffer : List ℕ
 
-abbrev pub wroteLeft : Wrote → WriteLeft
-wroteLeft w = record { number = answerNumber w.answer; bytes = answerLength w.answer; buffer = w.buffer }
+abbrev pub wrote_left : Wrote → WriteLeft
+wrote_left w = record { number = answer_number w.answer; bytes = answer_length w.answer; buffer = w.buffer }
 
-abbrev pub writeLeft : List ℕ → List ℕ → Decoded → WriteLeft
-writeLeft b buffer Unknown = record { number = 6; bytes = 0; buffer = buffer }
-writeLeft b buffer (Known k) = wroteLeft (writeCommand (headerIn b) k (dataIn b) buffer)
+abbrev pub write_left : List ℕ → List ℕ → Decoded → WriteLeft
+write_left b buffer Unknown = record { number = 6; bytes = 0; buffer = buffer }
+write_left b buffer (Known k) = wrote_left (write_command (header_in b) k (data_in b) buffer)
 
 -- a block of another length: 3, before all else
-unfoldable pub lgWriteCommand : List ℕ → List ℕ → WriteLeft
-lgWriteCommand b buffer =
-    cond (eqb (length b) commandWords) (writeLeft b buffer (commandIn b)) (record { number = 3; bytes = 0; buffer = buffer })
+unfoldable pub lg_write_command : List ℕ → List ℕ → WriteLeft
+lg_write_command b buffer =
+    cond (eqb (length b) command_words) (write_left b buffer (command_in b)) (record { number = 3; bytes = 0; buffer = buffer })
 
 -- A PACKET READ INTO A COMMAND BLOCK
 
@@ -42,22 +42,22 @@ pub record ReadLeft : Type 0 where
   pub block : List ℕ
 
 -- the command's own words, the twelve beside it, and its last two
-abbrev pub commandBlock : List ℕ → Reading → List ℕ → List ℕ
-commandBlock b (Unread r) ws = b
-commandBlock b (Read f) ws = blockWords f ws
+abbrev pub command_block : List ℕ → Reading → List ℕ → List ℕ
+command_block b (Unread r) ws = b
+command_block b (Read f) ws = block_words f ws
 
 -- a block of another length: 3, before all else
-unfoldable pub lgReadCommand : List ℕ → List ℕ → ReadLeft
-lgReadCommand p b =
-    cond (eqb (length b) commandWords)
-    (record { number = readingNumber (readCommand p).reading; block = commandBlock b (readCommand p).reading (readCommand p).words })
+unfoldable pub lg_read_command : List ℕ → List ℕ → ReadLeft
+lg_read_command p b =
+    cond (eqb (length b) command_words)
+    (record { number = reading_number (read_command p).reading; block = command_block b (read_command p).reading (read_command p).words })
     (record { number = 3; block = b })
 
 -- A DUMP PACKET READ
 
-abbrev pub packetBlock : List ℕ → PacketReading → List ℕ
-packetBlock b (NoPacket r) = b
-packetBlock b (Packet f) = fieldWords f
+abbrev pub packet_block : List ℕ → PacketReading → List ℕ
+packet_block b (NoPacket r) = b
+packet_block b (Packet f) = field_words f
 
 pub record PacketLeft : Type 0 where
   pub number : ℕ
@@ -65,12 +65,12 @@ pub record PacketLeft : Type 0 where
   pub bytes : ℕ
 
 -- a block of another length: 3, before all else; the bytes are those of the data part
-unfoldable pub lgReadPacket : List ℕ → List ℕ → PacketLeft
-lgReadPacket p b =
-    cond (eqb (length b) packetWords)
+unfoldable pub lg_read_packet : List ℕ → List ℕ → PacketLeft
+lg_read_packet p b =
+    cond (eqb (length b) packet_words)
     (record {
-      number = packetNumber (readPacket p).reading;
-      block = packetBlock b (readPacket p).reading;
-      bytes = length (readPacket p).part;
+      number = packet_number (read_packet p).reading;
+      block = packet_block b (read_packet p).reading;
+      bytes = length (read_packet p).part;
     })
     (record { number = 3; block = b; bytes = 0 })

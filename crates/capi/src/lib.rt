@@ -1,11 +1,11 @@
 // The C interface: the calls of the service over blocks of words that a C caller lends. Its header is c/leatgarnet.h.
 ghost use Rattle.std.specs.Prelude.{◌≡◌, length};
-ghost use Rattle.block.specs.Calls.{lgStartUp, lgSlot, lgCommand};
-ghost use Rattle.rules.specs.Results.{verdictNumber};
+ghost use Rattle.block.specs.Calls.{lg_start_up, lg_slot, lg_command};
+ghost use Rattle.rules.specs.Results.{verdict_number};
 ghost use Rattle.batches.specs.Batch.{lends, LeftAs, filled};
-ghost use Rattle.lent_batch.specs.Batches.{lgCommands};
-ghost use Rattle.whole_dump.specs.Check.{checkDump};
-ghost use Rattle.capi.specs.Commands.{lgWriteCommand, lgReadCommand, lgReadPacket};
+ghost use Rattle.lent_batch.specs.Batches.{lg_commands};
+ghost use Rattle.whole_dump.specs.Check.{check_dump};
+ghost use Rattle.capi.specs.Commands.{lg_write_command, lg_read_command, lg_read_packet};
 
 use answers::{ItemAnswer, number_of, put_records};
 use block::put_run;
@@ -25,7 +25,7 @@ use rules::{Decoded, PacketReading, Reading};
 
 #[unsafe(no_mangle)]
 pub extern "C" fn lg_start_up(table: &[u32], state: &mut [u32]) -> u32
-    ensures { (result ≡ (lgStartUp table.now state.old).number) × (state.new ≡ (lgStartUp table.now state.old).state) }
+    ensures { (result ≡ (lg_start_up table.now state.old).number) × (state.new ≡ (lg_start_up table.now state.old).state) }
 {
     let verdict = start_up(table, state);
     verdict_number(verdict)
@@ -41,7 +41,7 @@ pub extern "C" fn lg_slot(
     buffer: &mut [u8],
     bytes: &mut u32,
 ) -> u32
-    ensures { (result ≡ (lgSlot state.old tick image.now buffer.old).number) × (state.new ≡ (lgSlot state.old tick image.now buffer.old).state) × (buffer.new ≡ (lgSlot state.old tick image.now buffer.old).buffer) × (bytes.new ≡ (lgSlot state.old tick image.now buffer.old).bytes) }
+    ensures { (result ≡ (lg_slot state.old tick image.now buffer.old).number) × (state.new ≡ (lg_slot state.old tick image.now buffer.old).state) × (buffer.new ≡ (lg_slot state.old tick image.now buffer.old).buffer) × (bytes.new ≡ (lg_slot state.old tick image.now buffer.old).bytes) }
 {
     slot(state, tick, image, buffer, bytes)
 }
@@ -55,7 +55,7 @@ pub extern "C" fn lg_command(
     reply: &mut [u8],
     bytes: &mut u32,
 ) -> u32
-    ensures { (result ≡ (lgCommand state.old (record { packet = packet.entry.now; symbols = symbols.now; image = image.old; reply = reply.old })).number) × (state.new ≡ (lgCommand state.old (record { packet = packet.entry.now; symbols = symbols.now; image = image.old; reply = reply.old })).state) × (image.new ≡ (lgCommand state.old (record { packet = packet.entry.now; symbols = symbols.now; image = image.old; reply = reply.old })).image) × (reply.new ≡ (lgCommand state.old (record { packet = packet.entry.now; symbols = symbols.now; image = image.old; reply = reply.old })).buffer) × (bytes.new ≡ (lgCommand state.old (record { packet = packet.entry.now; symbols = symbols.now; image = image.old; reply = reply.old })).bytes) }
+    ensures { (result ≡ (lg_command state.old (record { packet = packet.entry.now; symbols = symbols.now; image = image.old; reply = reply.old })).number) × (state.new ≡ (lg_command state.old (record { packet = packet.entry.now; symbols = symbols.now; image = image.old; reply = reply.old })).state) × (image.new ≡ (lg_command state.old (record { packet = packet.entry.now; symbols = symbols.now; image = image.old; reply = reply.old })).image) × (reply.new ≡ (lg_command state.old (record { packet = packet.entry.now; symbols = symbols.now; image = image.old; reply = reply.old })).buffer) × (bytes.new ≡ (lg_command state.old (record { packet = packet.entry.now; symbols = symbols.now; image = image.old; reply = reply.old })).bytes) }
 {
     command(state, packet, symbols, image, reply, bytes)
 }
@@ -71,9 +71,9 @@ pub extern "C" fn lg_commands(
     replies: &mut [u8],
     answers: &mut [ItemAnswer],
 ) -> u32
-    ensures { (result ≡ verdictNumber (lgCommands state.old (lends bytes.now starts.now lengths.now symbols.now image.old replies.old) (length answers.old)).verdict)
-        × LeftAs (lgCommands state.old (lends bytes.now starts.now lengths.now symbols.now image.old replies.old) (length answers.old)) state.new image.new replies.new
-        × (answers.new ≡ filled answers.old (lgCommands state.old (lends bytes.now starts.now lengths.now symbols.now image.old replies.old) (length answers.old)).left.answers) }
+    ensures { (result ≡ verdict_number (lg_commands state.old (lends bytes.now starts.now lengths.now symbols.now image.old replies.old) (length answers.old)).verdict)
+        × LeftAs (lg_commands state.old (lends bytes.now starts.now lengths.now symbols.now image.old replies.old) (length answers.old)) state.new image.new replies.new
+        × (answers.new ≡ filled answers.old (lg_commands state.old (lends bytes.now starts.now lengths.now symbols.now image.old replies.old) (length answers.old)).left.answers) }
 {
     let a = answered(
         state,
@@ -93,7 +93,7 @@ pub extern "C" fn lg_commands(
 
 #[unsafe(no_mangle)]
 pub extern "C" fn lg_write_command(command: &[u32], buffer: &mut [u8], bytes: &mut u32) -> u32
-    ensures { (result ≡ (lgWriteCommand command.now buffer.old).number) × (buffer.new ≡ (lgWriteCommand command.now buffer.old).buffer) × (bytes.new ≡ (lgWriteCommand command.now buffer.old).bytes) }
+    ensures { (result ≡ (lg_write_command command.now buffer.old).number) × (buffer.new ≡ (lg_write_command command.now buffer.old).buffer) × (bytes.new ≡ (lg_write_command command.now buffer.old).bytes) }
 {
     *bytes = 0;
     if command.len() != 21 {
@@ -115,7 +115,7 @@ pub extern "C" fn lg_write_command(command: &[u32], buffer: &mut [u8], bytes: &m
 
 #[unsafe(no_mangle)]
 pub extern "C" fn lg_read_command(packet: &[u8], command: &mut [u32]) -> u32
-    ensures { (result ≡ (lgReadCommand packet.now command.old).number) × (command.new ≡ (lgReadCommand packet.now command.old).block) }
+    ensures { (result ≡ (lg_read_command packet.now command.old).number) × (command.new ≡ (lg_read_command packet.now command.old).block) }
 {
     if command.len() != 21 {
         return 3;
@@ -139,7 +139,7 @@ pub extern "C" fn lg_read_command(packet: &[u8], command: &mut [u32]) -> u32
 
 #[unsafe(no_mangle)]
 pub extern "C" fn lg_read_packet(packet: &[u8], fields: &mut [u32], bytes: &mut u32) -> u32
-    ensures { (result ≡ (lgReadPacket packet.now fields.old).number) × (fields.new ≡ (lgReadPacket packet.now fields.old).block) × (bytes.new ≡ (lgReadPacket packet.now fields.old).bytes) }
+    ensures { (result ≡ (lg_read_packet packet.now fields.old).number) × (fields.new ≡ (lg_read_packet packet.now fields.old).block) × (bytes.new ≡ (lg_read_packet packet.now fields.old).bytes) }
 {
     *bytes = 0;
     if fields.len() != 8 {
@@ -163,7 +163,7 @@ pub extern "C" fn lg_read_packet(packet: &[u8], fields: &mut [u32], bytes: &mut 
 
 #[unsafe(no_mangle)]
 pub extern "C" fn lg_check_dump(bytes: &[u8], lengths: &[u8]) -> u32
-    ensures { result ≡ checkDump bytes.now lengths.now }
+    ensures { result ≡ check_dump bytes.now lengths.now }
 {
     check_dump(bytes, lengths)
 }

@@ -1,9 +1,9 @@
 // The command call on a State: the facts from its parts, the decision, and the state after it.
 ghost use Rattle.std.specs.Prelude.{◌≡◌, true, cond, List, ℕ, ◌+◌, ◌%◌, ◌≤◌, ◌<◌, length};
-ghost use Rattle.rules.specs.Regions.{imageLength};
-ghost use Rattle.rules.specs.States.{poolAt, goodState};
-ghost use Rattle.rules.specs.Commands.{returned, setContext, changed, acceptedMore, commandCall};
-ghost use Rattle.decide.specs.Decisions.{byTask, decision, stateAfter};
+ghost use Rattle.rules.specs.Regions.{image_length};
+ghost use Rattle.rules.specs.States.{pool_at, good_state};
+ghost use Rattle.rules.specs.Commands.{returned, set_context, changed, accepted_more, command_call};
+ghost use Rattle.decide.specs.Decisions.{by_task, decision, state_after};
 
 use decide::{
     Decision, Told, answer_of, cancel, dump, is_counted, load, pool_statistics, write_out,
@@ -18,7 +18,7 @@ use tasks::Sought;
 
 // The range of pool i; there is none past the second.
 fn pool_at(pools: [Range; 2], i: u16) -> Range
-    ensures { result ≡ poolAt pools i }
+    ensures { result ≡ pool_at pools i }
 {
     let k = i as usize;
     if k < 2 {
@@ -33,7 +33,7 @@ fn pool_at(pools: [Range; 2], i: u16) -> Range
 
 // The decision on a task in a good state, by the facts that this task asks for.
 fn by_task(s: State, t: u16, k: Task, image: &[u32]) -> Decision
-    ensures { goodState s ≡ true → result ≡ byTask s image.now t k }
+    ensures { good_state s ≡ true → result ≡ by_task s image.now t k }
 {
     let ps = s.places;
     match k {
@@ -75,7 +75,7 @@ fn decide(
     image: &[u32],
     reply: usize,
 ) -> Decision
-    ensures { (bytes : List ℕ) → good ≡ cond (goodState s) (imageLength s.regions s.count) 0 → length bytes ≡ reply → result ≡ decision s (record { packet = packet.entry.now; symbols = symbols.now; image = image.now; reply = bytes }) }
+    ensures { (bytes : List ℕ) → good ≡ cond (good_state s) (image_length s.regions s.count) 0 → length bytes ≡ reply → result ≡ decision s (record { packet = packet.entry.now; symbols = symbols.now; image = image.now; reply = bytes }) }
 {
     let sought = opened_by(
         good,
@@ -102,7 +102,7 @@ fn raised(count: u16, n: u32) -> u16
 
 // One more command accepted, with place i changed.
 fn with_context(s: State, i: usize, c: Context) -> State
-    ensures { result ≡ changed s (setContext s.places i c) s.replies s.values (acceptedMore s) s.refused }
+    ensures { result ≡ changed s (set_context s.places i c) s.replies s.values (accepted_more s) s.refused }
 {
     let places = s.places;
     let after = set_context(places, i, c);
@@ -114,7 +114,7 @@ fn with_context(s: State, i: usize, c: Context) -> State
 
 // The state after a decision.
 fn applied(s: State, d: Decision) -> State
-    ensures { result ≡ stateAfter s d }
+    ensures { result ≡ state_after s d }
 {
     let mut state = s;
     match d {
@@ -154,9 +154,9 @@ pub fn command(
     image: &mut [u32],
     reply: &mut [u8],
 ) -> Returned
-    ensures { (result ≡ returned (commandCall s (record { packet = packet.entry.now; symbols = symbols.now; image = image.old; reply = reply.old })))
-        × (image.new ≡ (commandCall s (record { packet = packet.entry.now; symbols = symbols.now; image = image.old; reply = reply.old })).image)
-        × (reply.new ≡ (commandCall s (record { packet = packet.entry.now; symbols = symbols.now; image = image.old; reply = reply.old })).buffer) }
+    ensures { (result ≡ returned (command_call s (record { packet = packet.entry.now; symbols = symbols.now; image = image.old; reply = reply.old })))
+        × (image.new ≡ (command_call s (record { packet = packet.entry.now; symbols = symbols.now; image = image.old; reply = reply.old })).image)
+        × (reply.new ≡ (command_call s (record { packet = packet.entry.now; symbols = symbols.now; image = image.old; reply = reply.old })).buffer) }
 {
     let d = decide(s, good_words(s), packet, symbols, image, reply.len());
     write_out(d, packet, image, reply);

@@ -1,10 +1,10 @@
 // The command reader: 4, 5, 6, 7, 9 or the fields, for any bytes of any length.
 ghost use Rattle.std.specs.Prelude.{◌≡◌, ◌≤◌, ◌<◌, length};
 ghost use Rattle.lists.specs.Splice.{splice};
-ghost use Rattle.rules.specs.Ground.{noWords, wordsBeside, readCommand};
+ghost use Rattle.rules.specs.Ground.{no_words, words_beside, read_command};
 ghost use Rattle.rules.specs.Packets.{decode};
-ghost use Rattle.command_reader.specs.Beside.{wordsWith};
-ghost use Rattle.command_reader.specs.Read.{givenAs, readAs};
+ghost use Rattle.command_reader.specs.Beside.{words_with};
+ghost use Rattle.command_reader.specs.Read.{given_as, read_as};
 
 use bulk::{load_words, name_words};
 use packet::{
@@ -16,7 +16,7 @@ use wire::{byte_at, get16};
 
 // Numbers 7 and 9 of a command whose packet must have so many bytes, or its fields. `zeros` says whether the bits that hold no field are zero.
 fn given(p: &[u8], bytes: usize, zeros: bool, command: Command) -> Reading
-    ensures { result ≡ givenAs p.now bytes zeros command }
+    ensures { result ≡ given_as p.now bytes zeros command }
 {
     if p.len() != bytes {
         return Reading::Unread(Refusal::PacketLength);
@@ -30,7 +30,7 @@ fn given(p: &[u8], bytes: usize, zeros: bool, command: Command) -> Reading
 
 // The function code picks the command and its packet's length.
 fn by_code(p: &[u8]) -> Reading
-    ensures { result ≡ readAs p.now (decode p.now) }
+    ensures { result ≡ read_as p.now (decode p.now) }
 {
     match function_code(p) {
         code::DUMP => given(p, lengths::DUMP, true, Command::Dump(request_in(p))),
@@ -60,7 +60,7 @@ fn by_code(p: &[u8]) -> Reading
 
 // Numbers 4 to 7 and 9, or the fields.
 pub fn reading_of(p: &[u8]) -> Reading
-    ensures { result ≡ (readCommand p.now).reading }
+    ensures { result ≡ (read_command p.now).reading }
 {
     let head = headed(p);
     match head {
@@ -71,7 +71,7 @@ pub fn reading_of(p: &[u8]) -> Reading
 
 fn put_zeros(words: &mut [u32])
     requires { 12 ≤ length words.old }
-    ensures { words.new ≡ splice words.old 0 noWords }
+    ensures { words.new ≡ splice words.old 0 no_words }
 {
     let mut i = 0;
     while i < 12 {
@@ -82,7 +82,7 @@ fn put_zeros(words: &mut [u32])
 
 // The twelve words beside a command, at the start of a slice of words. Where it has fewer, nothing is written.
 pub fn put_beside(words: &mut [u32], p: &[u8], k: Command)
-    ensures { (12 ≤ length words.old → words.new ≡ splice words.old 0 (wordsBeside p.now k))
+    ensures { (12 ≤ length words.old → words.new ≡ splice words.old 0 (words_beside p.now k))
         × (length words.old < 12 → words.new ≡ words.old) }
 {
     if words.len() < 12 {
@@ -102,7 +102,7 @@ pub fn put_beside(words: &mut [u32], p: &[u8], k: Command)
 }
 
 fn words_with(p: &[u8], reading: Reading) -> [u32; 12]
-    ensures { result ≡ wordsWith p.now reading }
+    ensures { result ≡ words_with p.now reading }
 {
     let mut words = [0u32; 12];
     match reading {
@@ -117,7 +117,7 @@ fn words_with(p: &[u8], reading: Reading) -> [u32; 12]
 
 // The fields of a command packet, with the words of a load or of a name beside them.
 pub fn read_command(p: &[u8]) -> CommandRead
-    ensures { result ≡ readCommand p.now }
+    ensures { result ≡ read_command p.now }
 {
     let reading = reading_of(p);
     let words = words_with(p, reading);

@@ -3,10 +3,10 @@ ghost use Rattle.std.specs.Prelude.{◌≡◌, ◌++◌, ◌*◌, ◌≤◌, ◌
 ghost use Rattle.std.specs.Int.Bits.{bit_xor};
 ghost use Rattle.lists.specs.Splice.{splice};
 ghost use Rattle.wire.specs.Bytes.{be, word_bytes};
-ghost use Rattle.wire.specs.Xor.{xorAll};
-ghost use Rattle.rules.specs.Packets.{packetLength, usedWords, nameBytes, nameField, requestBytes, bodyBytes};
-ghost use Rattle.rules.specs.Ground.{headerRules, writeCommand};
-ghost use Rattle.command_writer.specs.Start.{startBytes};
+ghost use Rattle.wire.specs.Xor.{xor_all};
+ghost use Rattle.rules.specs.Packets.{packet_length, used_words, name_bytes, name_field, request_bytes, body_bytes};
+ghost use Rattle.rules.specs.Ground.{header_rules, write_command};
+ghost use Rattle.command_writer.specs.Start.{start_bytes};
 ghost use Rattle.rules.specs.declared.Command.TheVariants.{DumpSymbol};
 
 use packet::{code_of, field_rules, packet_length};
@@ -14,7 +14,7 @@ use rules::{Answer, Command, Header, Refusal, Request, SymbolRequest, Written};
 use wire::{put_words, wide32, xor_word};
 
 fn header_rules(h: Header) -> bool
-    ensures { result ≡ headerRules h }
+    ensures { result ≡ header_rules h }
 {
     (h.unit <= 15) & (h.transaction <= 4095) & (h.count <= 16383)
 }
@@ -23,7 +23,7 @@ fn header_rules(h: Header) -> bool
 // words come to that of `rest`.
 fn put_start(b: &mut [u8], count: u16, code: u8, n: usize, rest: u32)
     requires { (count ≤ 16383) × (7 ≤ n) × (n ≤ 68) × (8 ≤ length b.old) }
-    ensures { b.new ≡ splice b.old 0 (set (startBytes count code n) 7 (bit_xor (bit_xor (xorAll (startBytes count code n)) (xorAll (be 4 rest))) 255)) }
+    ensures { b.new ≡ splice b.old 0 (set (start_bytes count code n) 7 (bit_xor (bit_xor (xor_all (start_bytes count code n)) (xor_all (be 4 rest))) 255)) }
 {
     // type 1, second-header flag 1, APID 1604; sequence flags 3
     let first = 7748 * 65536 + (49152 + count as u32);
@@ -36,7 +36,7 @@ fn put_start(b: &mut [u8], count: u16, code: u8, n: usize, rest: u32)
 // Unit and transaction alone.
 fn put_identity(b: &mut [u8], id: u32) -> u32
     requires { (id < 65536) × (10 ≤ length b.old) }
-    ensures { (b.new ≡ splice b.old 8 (be 2 id)) × (xorAll (be 4 result) ≡ xorAll (be 2 id)) }
+    ensures { (b.new ≡ splice b.old 8 (be 2 id)) × (xor_all (be 4 result) ≡ xor_all (be 2 id)) }
 {
     b[8] = (id / 256) as u8;
     b[9] = (id % 256) as u8;
@@ -45,7 +45,7 @@ fn put_identity(b: &mut [u8], id: u32) -> u32
 
 fn put_pool(b: &mut [u8], id: u32, pool: u16) -> u32
     requires { (id < 65536) × (12 ≤ length b.old) }
-    ensures { (b.new ≡ splice b.old 8 (be 2 id ++ be 2 pool)) × (xorAll (be 4 result) ≡ xorAll (be 2 id ++ be 2 pool)) }
+    ensures { (b.new ≡ splice b.old 8 (be 2 id ++ be 2 pool)) × (xor_all (be 4 result) ≡ xor_all (be 2 id ++ be 2 pool)) }
 {
     let third = id * 65536 + pool as u32;
     let run = [third];
@@ -55,7 +55,7 @@ fn put_pool(b: &mut [u8], id: u32, pool: u16) -> u32
 
 fn put_request(b: &mut [u8], id: u32, q: Request) -> u32
     requires { (id < 65536) × (16 ≤ length b.old) }
-    ensures { (b.new ≡ splice b.old 8 (be 2 id ++ requestBytes q)) × (xorAll (be 4 result) ≡ xorAll (be 2 id ++ requestBytes q)) }
+    ensures { (b.new ≡ splice b.old 8 (be 2 id ++ request_bytes q)) × (xor_all (be 4 result) ≡ xor_all (be 2 id ++ request_bytes q)) }
 {
     let third = id * 65536 + q.size as u32;
     let address = q.address.0;
@@ -67,7 +67,7 @@ fn put_request(b: &mut [u8], id: u32, q: Request) -> u32
 // A load's word `i` as it is written: a word beyond the size is 0, and so is one that was not given.
 fn used_word(words: &[u32], size: u16, i: usize) -> u32
     requires { i < 11 }
-    ensures { result ≡ get_or (usedWords size words.now) i 0 }
+    ensures { result ≡ get_or (used_words size words.now) i 0 }
 {
     if size as usize <= i {
         return 0;
@@ -81,7 +81,7 @@ fn used_word(words: &[u32], size: u16, i: usize) -> u32
 // A load's eleven words. With the one test here the compiler leaves out those of each word.
 fn put_data(b: &mut [u8], size: u16, words: &[u32]) -> u32
     requires { 60 ≤ length b.old }
-    ensures { (b.new ≡ splice b.old 16 (word_bytes (usedWords size words.now))) × (xorAll (be 4 result) ≡ xorAll (word_bytes (usedWords size words.now))) }
+    ensures { (b.new ≡ splice b.old 16 (word_bytes (used_words size words.now))) × (xor_all (be 4 result) ≡ xor_all (word_bytes (used_words size words.now))) }
 {
     if b.len() < 60 {
         return 0;
@@ -114,7 +114,7 @@ fn kept(w: u32, n: usize) -> u32
 // Word `i` of a name of n bytes as it is written: bytes beyond its size are 0, and so are those that were not given.
 fn name_word(words: &[u32], n: u8, i: usize) -> u32
     requires { i < 12 }
-    ensures { be 4 result ≡ take 4 (drop (4 * i) (nameBytes n words.now)) }
+    ensures { be 4 result ≡ take 4 (drop (4 * i) (name_bytes n words.now)) }
 {
     if words.len() <= i {
         return 0;
@@ -132,7 +132,7 @@ fn name_word(words: &[u32], n: u8, i: usize) -> u32
 // Unit and transaction, and the name of a symbol in its field of twelve words. The one test is as in put_data.
 fn put_name(b: &mut [u8], id: u32, n: u8, words: &[u32]) -> u32
     requires { (id < 65536) × (60 ≤ length b.old) }
-    ensures { (b.new ≡ splice b.old 8 (be 2 id ++ nameField n words.now)) × (xorAll (be 4 result) ≡ xorAll (be 2 id ++ nameField n words.now)) }
+    ensures { (b.new ≡ splice b.old 8 (be 2 id ++ name_field n words.now)) × (xor_all (be 4 result) ≡ xor_all (be 2 id ++ name_field n words.now)) }
 {
     if b.len() < 60 {
         return 0;
@@ -154,7 +154,7 @@ fn put_name(b: &mut [u8], id: u32, n: u8, words: &[u32]) -> u32
 
 fn put_symbol_request(b: &mut [u8], id: u32, q: SymbolRequest, words: &[u32]) -> u32
     requires { (id < 65536) × (68 ≤ length b.old) }
-    ensures { (b.new ≡ splice b.old 8 (be 2 id ++ bodyBytes (DumpSymbol q) words.now)) × (xorAll (be 4 result) ≡ xorAll (be 2 id ++ bodyBytes (DumpSymbol q) words.now)) }
+    ensures { (b.new ≡ splice b.old 8 (be 2 id ++ body_bytes (DumpSymbol q) words.now)) × (xor_all (be 4 result) ≡ xor_all (be 2 id ++ body_bytes (DumpSymbol q) words.now)) }
 {
     let name = put_name(b, id, q.name, words);
     let offset = q.offset;
@@ -166,8 +166,8 @@ fn put_symbol_request(b: &mut [u8], id: u32, q: SymbolRequest, words: &[u32]) ->
 
 // The bytes from unit and transaction on. The answer is a word whose bytes have their exclusive or.
 fn put_rest(b: &mut [u8], id: u32, k: Command, words: &[u32]) -> u32
-    requires { (id < 65536) × (packetLength k ≤ length b.old) }
-    ensures { (b.new ≡ splice b.old 8 (be 2 id ++ bodyBytes k words.now)) × (xorAll (be 4 result) ≡ xorAll (be 2 id ++ bodyBytes k words.now)) }
+    requires { (id < 65536) × (packet_length k ≤ length b.old) }
+    ensures { (b.new ≡ splice b.old 8 (be 2 id ++ body_bytes k words.now)) × (xor_all (be 4 result) ≡ xor_all (be 2 id ++ body_bytes k words.now)) }
 {
     match k {
         Command::Dump(q) => put_request(b, id, q),
@@ -184,7 +184,7 @@ fn put_rest(b: &mut [u8], id: u32, k: Command, words: &[u32]) -> u32
 
 // Writes a command's packet. Of `words`, which are a load's or hold a name, what is beyond its size is not written, and one that is not there is 0.
 pub fn write_packet(h: Header, k: Command, words: &[u32], buffer: &mut [u8]) -> Answer
-    ensures { (result ≡ (writeCommand h k words.now buffer.old).answer) × (buffer.new ≡ (writeCommand h k words.now buffer.old).buffer) }
+    ensures { (result ≡ (write_command h k words.now buffer.old).answer) × (buffer.new ≡ (write_command h k words.now buffer.old).buffer) }
 {
     let n = packet_length(k);
     if buffer.len() < n {
@@ -201,7 +201,7 @@ pub fn write_packet(h: Header, k: Command, words: &[u32], buffer: &mut [u8]) -> 
 
 // The same of twelve words.
 pub fn write_command(h: Header, k: Command, words: &[u32; 12], buffer: &mut [u8]) -> Answer
-    ensures { (result ≡ (writeCommand h k words.now buffer.old).answer) × (buffer.new ≡ (writeCommand h k words.now buffer.old).buffer) }
+    ensures { (result ≡ (write_command h k words.now buffer.old).answer) × (buffer.new ≡ (write_command h k words.now buffer.old).buffer) }
 {
     write_packet(h, k, words, buffer)
 }

@@ -9,17 +9,17 @@ use lib.Dec.{leb, ltb, eqb}
 use lib.ListN.{length}
 use borrow.Author.Tests.{leb-true, le-leb, lt-leb, ltb-true, ltb-false, eqb-false, not-false}
 use Rattle.lists.proofs.Tests.{either, and_left, and_right}
-use Rattle.lists.proofs.Below.{any-first}
-use Rattle.rules.specs.Regions.{aligned, regionAt, anyRight, loadRight, dumpRight, inOneRegion, startsInside, imageLength, regionOf, imageIndex, words_of}
-use Rattle.rules.specs.States.{poolAt, contextAt, busyWith, goodState}
-use Rattle.rules.specs.Packets.{requested, decode, packetLength, fieldRules, commandTransaction, nameIn}
-use Rattle.rules.specs.Pools.{Walk, damaged, whole, blocksOf, isDamaged, replyLength}
-use Rattle.rules.specs.Results.{lowest, lentRows}
-use Rattle.rules.specs.Values.{addressFits}
+use Rattle.lists.proofs.Below.{any_first}
+use Rattle.rules.specs.Regions.{aligned, region_at, any_right, load_right, dump_right, in_one_region, starts_inside, image_length, region_of, image_index, words_of}
+use Rattle.rules.specs.States.{pool_at, context_at, busy_with, good_state}
+use Rattle.rules.specs.Packets.{requested, decode, packet_length, field_rules, command_transaction, name_in}
+use Rattle.rules.specs.Pools.{Walk, damaged, whole, blocks_of, is_damaged, reply_length}
+use Rattle.rules.specs.Results.{lowest, lent_rows}
+use Rattle.rules.specs.Values.{address_fits}
 use Rattle.symbols.specs.Table.{value_of}
-use Rattle.rules.specs.Commands.{CommandArgs, Outcome, rangeBy, task_of, task, noTable, layoutRules, unknownName, wrongRange, isIdle, anyWith, anyIdle, firstWith, firstIdle, poolWords, returned, refusedCommand, carryOut, conclude, commandCall}
-use Rattle.rules.proofs.Rules.{pool-out}
-use Rattle.rules.proofs.Table.{one-any, starts-whole, image-fits}
+use Rattle.rules.specs.Commands.{CommandArgs, Outcome, range_by, task_of, task, no_table, layout_rules, unknown_name, wrong_range, is_idle, any_with, any_idle, first_with, first_idle, pool_words, returned, refused_command, carry_out, conclude, command_call}
+use Rattle.rules.proofs.Rules.{pool_out}
+use Rattle.rules.proofs.Table.{one_any, starts_whole, image_fits}
 use Rattle.rules.specs.declared.Answer.{Answer}
 use Rattle.rules.specs.declared.Command.{Command}
 use Rattle.rules.specs.declared.Command.TheVariants.{Dump, Cancel, Load, PoolStatistics, SymbolValue, DumpSymbol}
@@ -34,34 +34,34 @@ use Rattle.rules.specs.declared.Task.{Task}
 use Rattle.rules.specs.declared.Task.TheVariants.{Nothing, DumpRange, CancelDump, LoadRange, CountPool, TellValue}
 use Rattle.rules.specs.declared.Verdict.{Verdict}
 use Rattle.rules.specs.declared.Verdict.TheVariants.{Accepted, Rejected}
-use Rattle.packet.specs.Frame.{frameRows, headedOf, checkedBy}
-use Rattle.tasks.specs.Asked.{asked_of, ifPassed, pickedBy, soughtIn}
+use Rattle.packet.specs.Frame.{frame_rows, headed_of, checked_by}
+use Rattle.tasks.specs.Asked.{asked_of, if_passed, picked_by, sought_in}
 use Rattle.tasks.specs.declared.Sought.{Sought}
 use Rattle.tasks.specs.declared.Sought.TheVariants.{Denied, Asked}
-use Rattle.pool.specs.Answers.{figuresOf, walkedOf}
-use Rattle.pool.proofs.ReplyBytes.{reply-bytes, reply-fits}
-use Rattle.regions.proofs.Answers.{found-whole, index-whole}
-use Rattle.opening.specs.Opening.{lent_by, openedAs, openedBy, goodWords}
-use Rattle.decide.specs.Decisions.{decideWalked, byTask, bySought, decision, answer_of, imageAfter, replyAfter, stateAfter, carriedOut, Decided}
+use Rattle.pool.specs.Answers.{figures_of, walked_of}
+use Rattle.pool.proofs.ReplyBytes.{reply_bytes_lem, reply_fits}
+use Rattle.regions.proofs.Answers.{found_whole, index_whole}
+use Rattle.opening.specs.Opening.{lent_by, opened_as, opened_by, good_words}
+use Rattle.decide.specs.Decisions.{decide_walked, by_task, by_sought, decision, answer_of, image_after, reply_after, state_after, carried_out, Decided}
 use Rattle.decide.specs.declared.Decision.{Decision}
 use Rattle.decide.specs.declared.Decision.TheVariants.{Refuse}
 use Rattle.decide.proofs.Right.{right_there}
-use Rattle.opening.proofs.Rows.{or_else, afterCode, frame-lowest}
-use Rattle.decide.proofs.Rows.{askedRows, taskRows, command-lowest}
-use Rattle.opening.proofs.Lent.{LentIs, lent-lowest, lent_out, lent-good}
+use Rattle.opening.proofs.Rows.{or_else, after_code, frame_lowest}
+use Rattle.decide.proofs.Rows.{asked_rows, task_rows, command_lowest}
+use Rattle.opening.proofs.Lent.{LentIs, lent_lowest, lent_out, lent_good}
 
 -- THE PLACES
 
-any-with : (t : ℕ) (ps : List Place) → anyWith t ps ≡ ltb (firstWith t ps) 4
-unfolding anyWith firstWith
-any-with t ps = any-first (λ i. busyWith t (contextAt ps i)) 4
+any_with_lem : (t : ℕ) (ps : List Place) → any_with t ps ≡ ltb (first_with t ps) 4
+unfolding any_with first_with
+any_with_lem t ps = any_first (λ i. busy_with t (context_at ps i)) 4
 
-any-idle : (ps : List Place) → anyIdle ps ≡ ltb (firstIdle ps) 4
-unfolding anyIdle firstIdle
-any-idle ps = any-first (λ i. isIdle (contextAt ps i)) 4
+any_idle_lem : (ps : List Place) → any_idle ps ≡ ltb (first_idle ps) 4
+unfolding any_idle first_idle
+any_idle_lem ps = any_first (λ i. is_idle (context_at ps i)) 4
 
-not-below : (x : ℕ) → leb 4 x ≡ not (ltb x 4)
-not-below x = either (ltb x 4) (λ h. rw (h, lt-leb 4 x (ltb-true x 4 h))) (λ h. rw (h, le-leb 4 x (ltb-false x 4 h)))
+not_below : (x : ℕ) → leb 4 x ≡ not (ltb x 4)
+not_below x = either (ltb x 4) (λ h. rw (h, lt-leb 4 x (ltb-true x 4 h))) (λ h. rw (h, le-leb 4 x (ltb-false x 4 h)))
 
 -- THE FIELDS
 
@@ -74,206 +74,206 @@ Sized (LoadRange a) = (1 ≤ a.words) × (a.words ≤ 11)
 Sized (CountPool i) = i ≤ 1
 Sized (TellValue v) = Unit {0}
 
-task-sized : (symbols p : List ℕ) (k : Command) → layoutRules p k ≡ true → wrongRange symbols (nameIn p) (Known k) ≡ false
-    → Sized (task_of symbols (nameIn p) (Known k))
-unfolding fieldRules
-task-sized symbols p (Dump q) h w = leb-true _ _ (and_right (aligned (requested q)) (leb 1 q.size) h)
-task-sized symbols p Cancel h w = tt
-task-sized symbols p (Load q) h w =
+task_sized : (symbols p : List ℕ) (k : Command) → layout_rules p k ≡ true → wrong_range symbols (name_in p) (Known k) ≡ false
+    → Sized (task_of symbols (name_in p) (Known k))
+unfolding field_rules
+task_sized symbols p (Dump q) h w = leb-true _ _ (and_right (aligned (requested q)) (leb 1 q.size) h)
+task_sized symbols p Cancel h w = tt
+task_sized symbols p (Load q) h w =
     let m = aligned (requested q) in
     let a = leb 1 q.size in
     let b = leb q.size 11 in
     (leb-true _ _ (and_right m a (and_left (m && a) b h)), leb-true _ _ (and_right (m && a) b h))
-task-sized symbols p (PoolStatistics i) h w = leb-true _ _ h
-task-sized symbols p (SymbolValue n) h w = tt
-task-sized symbols p (DumpSymbol q) h w =
-    let fits = addressFits (value_of symbols (nameIn p)) q.offset && aligned (rangeBy symbols (nameIn p) q) in
+task_sized symbols p (PoolStatistics i) h w = leb-true _ _ h
+task_sized symbols p (SymbolValue n) h w = tt
+task_sized symbols p (DumpSymbol q) h w =
+    let fits = address_fits (value_of symbols (name_in p)) q.offset && aligned (range_by symbols (name_in p) q) in
     leb-true _ _ (and_right fits (leb 1 q.size) (not-false _ w))
 
 -- 10 TO 15
 
 -- what is concluded of a task
-abbrev concludeAs : State → CommandArgs → Task → Verdict → Outcome
-concludeAs s c k (Rejected r) = refusedCommand s c r
-concludeAs s c k Accepted = carryOut s c k
+abbrev conclude_as : State → CommandArgs → Task → Verdict → Outcome
+conclude_as s c k (Rejected r) = refused_command s c r
+conclude_as s c k Accepted = carry_out s c k
 
-conclude-as : (s : State) (c : CommandArgs) (v : Verdict) → conclude s c v ≡ concludeAs s c (task c) v
-conclude-as s c (Rejected r) = refl
-conclude-as s c Accepted = refl
+conclude_as_lem : (s : State) (c : CommandArgs) (v : Verdict) → conclude s c v ≡ conclude_as s c (task c) v
+conclude_as_lem s c (Rejected r) = refl
+conclude_as_lem s c Accepted = refl
 
-module _ (s : State) (c : CommandArgs) (lent : LentIs s c.image replyLength c.reply) where
+module _ (s : State) (c : CommandArgs) (lent : LentIs s c.image reply_length c.reply) where
   -- the call, by the rows that are left for a task
   abbrev Own : Task → Type 0
-  Own k = concludeAs s c k (lowest (taskRows s c k)) ≡ carriedOut s c (byTask s c.image (commandTransaction c.packet) k)
+  Own k = conclude_as s c k (lowest (task_rows s c k)) ≡ carried_out s c (by_task s c.image (command_transaction c.packet) k)
 
-  own-dump : (a : Range) → 1 ≤ a.words → Own (DumpRange a)
-  unfolding lowest taskRows
-  own-dump a some =
-      let t : ℕ = commandTransaction c.packet in
-      rw (found-whole _ _ a lent.start.table some)
-      (either (inOneRegion anyRight s.regions s.count a)
-      (λ i. rw (i, starts-whole _ _ a some i, right_there dumpRight _ _ lent.start.table a some i, any-with t s.places, any-idle s.places, not-below (firstIdle s.places))
-      (either (regionAt s.regions (regionOf s.regions s.count a)).dump
-      (λ r. rw r (either (ltb (firstWith t s.places) 4) (λ b. rw b) (λ b. rw b (either (ltb (firstIdle s.places) 4) (λ e. rw e) (λ e. rw e)))))
+  own_dump : (a : Range) → 1 ≤ a.words → Own (DumpRange a)
+  unfolding lowest task_rows
+  own_dump a some =
+      let t : ℕ = command_transaction c.packet in
+      rw (found_whole _ _ a lent.start.table some)
+      (either (in_one_region any_right s.regions s.count a)
+      (λ i. rw (i, starts_whole _ _ a some i, right_there dump_right _ _ lent.start.table a some i, any_with_lem t s.places, any_idle_lem s.places, not_below (first_idle s.places))
+      (either (region_at s.regions (region_of s.regions s.count a)).dump
+      (λ r. rw r (either (ltb (first_with t s.places) 4) (λ b. rw b) (λ b. rw b (either (ltb (first_idle s.places) 4) (λ e. rw e) (λ e. rw e)))))
       (λ r. rw r)))
-      (λ i. rw i (either (startsInside s.regions s.count a) (λ q. rw q) (λ q. rw q))))
+      (λ i. rw i (either (starts_inside s.regions s.count a) (λ q. rw q) (λ q. rw q))))
 
-  own-cancel : Own CancelDump
-  unfolding lowest taskRows
-  own-cancel =
-      let t : ℕ = commandTransaction c.packet in
-      rw (any-with t s.places, not-below (firstWith t s.places))
-      (either (ltb (firstWith t s.places) 4) (λ b. rw b) (λ b. rw b))
+  own_cancel : Own CancelDump
+  unfolding lowest task_rows
+  own_cancel =
+      let t : ℕ = command_transaction c.packet in
+      rw (any_with_lem t s.places, not_below (first_with t s.places))
+      (either (ltb (first_with t s.places) 4) (λ b. rw b) (λ b. rw b))
 
-  own-load : (a : Range) → 1 ≤ a.words → a.words ≤ 11 → Own (LoadRange a)
-  unfolding lowest taskRows
-  own-load a some most =
-      either (inOneRegion anyRight s.regions s.count a)
+  own_load : (a : Range) → 1 ≤ a.words → a.words ≤ 11 → Own (LoadRange a)
+  unfolding lowest task_rows
+  own_load a some most =
+      either (in_one_region any_right s.regions s.count a)
       (λ i.
-      let fits : (imageIndex s.regions s.count a).0 + a.words ≤ length c.image =
-      omega (arith, image-fits s.regions s.count a i, lent.whole) in
-      rw (index-whole s.regions a s.count lent.start.table some i, found-whole _ _ a lent.start.table some, i, starts-whole _ _ a some i, right_there loadRight _ _ lent.start.table a some i)
-      (either (regionAt s.regions (regionOf s.regions s.count a)).load
+      let fits : (image_index s.regions s.count a).0 + a.words ≤ length c.image =
+      omega (arith, image_fits s.regions s.count a i, lent.whole) in
+      rw (index_whole s.regions a s.count lent.start.table some i, found_whole _ _ a lent.start.table some, i, starts_whole _ _ a some i, right_there load_right _ _ lent.start.table a some i)
+      (either (region_at s.regions (region_of s.regions s.count a)).load
       (λ r. rw (r, le-leb a.words 11 most, le-leb _ _ fits))
       (λ r. rw r)))
-      (λ i. rw (found-whole _ _ a lent.start.table some, i) (either (startsInside s.regions s.count a) (λ q. rw q) (λ q. rw q)))
+      (λ i. rw (found_whole _ _ a lent.start.table some, i) (either (starts_inside s.regions s.count a) (λ q. rw q) (λ q. rw q)))
 
   -- the reply with its numbers cut to their fields is the reply, and the figures are those of the blocks
-  pool-walked : (i : ℕ) (w : Walk) → blocksOf (poolWords s i c.image) ≡ w
-      → concludeAs s c (CountPool i) (cond (isDamaged w) (Rejected PoolDamaged) Accepted)
-      ≡ carriedOut s c (decideWalked (record { count = s.replies; unit = s.unit; transaction = commandTransaction c.packet }) i (walkedOf w))
-  pool-walked i damaged e = refl
-  pool-walked i (whole bs) e =
-      let t : ℕ = commandTransaction c.packet in
-      let put = reply-fits c.reply s.replies s.unit t i (figuresOf bs) refl lent.good.replies lent.start.low (omega arith) in
-      rw (e, le-leb 32 (length c.reply) lent.room, put, reply-bytes s.replies s.unit t i bs)
+  pool_walked : (i : ℕ) (w : Walk) → blocks_of (pool_words s i c.image) ≡ w
+      → conclude_as s c (CountPool i) (cond (is_damaged w) (Rejected PoolDamaged) Accepted)
+      ≡ carried_out s c (decide_walked (record { count = s.replies; unit = s.unit; transaction = command_transaction c.packet }) i (walked_of w))
+  pool_walked i damaged e = refl
+  pool_walked i (whole bs) e =
+      let t : ℕ = command_transaction c.packet in
+      let put = reply_fits c.reply s.replies s.unit t i (figures_of bs) refl lent.good.replies lent.start.low (omega arith) in
+      rw (e, le-leb 32 (length c.reply) lent.room, put, reply_bytes_lem s.replies s.unit t i bs)
 
-  own-pool : (i : ℕ) → i ≤ 1 → Own (CountPool i)
-  unfolding lowest taskRows words_of
-  own-pool i low =
-      let pool : Range = poolAt s.pools i in
+  own_pool : (i : ℕ) → i ≤ 1 → Own (CountPool i)
+  unfolding lowest task_rows words_of
+  own_pool i low =
+      let pool : Range = pool_at s.pools i in
       either (eqb pool.words 0)
       (λ z. rw z)
       (λ z.
-      let there = pool-out _ _ pool (lent.start.pools i low) (eqb-false _ _ z) in
-      let inside = one-any dumpRight _ _ pool there.region in
-      let fits : (imageIndex s.regions s.count pool).0 + pool.words ≤ length c.image =
-      omega (arith, image-fits s.regions s.count pool inside, lent.whole) in
+      let there = pool_out _ _ pool (lent.start.pools i low) (eqb-false _ _ z) in
+      let inside = one_any dump_right _ _ pool there.region in
+      let fits : (image_index s.regions s.count pool).0 + pool.words ≤ length c.image =
+      omega (arith, image_fits s.regions s.count pool inside, lent.whole) in
       let some : 1 ≤ pool.words = let n = eqb-false pool.words 0 z in omega arith in
-      rw (index-whole s.regions pool s.count lent.start.table some inside, found-whole _ _ pool lent.start.table some, z, inside, le-leb _ _ fits) (pool-walked i (blocksOf (poolWords s i c.image)) refl))
+      rw (index_whole s.regions pool s.count lent.start.table some inside, found_whole _ _ pool lent.start.table some, z, inside, le-leb _ _ fits) (pool_walked i (blocks_of (pool_words s i c.image)) refl))
 
   -- the reply with its numbers cut to their fields is the reply
   own_value : (v : ℕ) → Own (TellValue v)
-  unfolding lowest taskRows
+  unfolding lowest task_rows
   own_value v =
       let count : s.values % 16384 ≡ s.values = omega (arith, lent.good.values) in
       let unit : s.unit % 16 ≡ s.unit = omega (arith, lent.start.low) in
-      let number : commandTransaction c.packet % 4096 ≡ commandTransaction c.packet = omega arith in
+      let number : command_transaction c.packet % 4096 ≡ command_transaction c.packet = omega arith in
       rw (le-leb 12 (length c.reply) (omega (arith, lent.room)), count, unit, number)
 
-  by-task : (k : Task) → Sized k → Own k
-  unfolding lowest taskRows
-  by-task Nothing z = refl
-  by-task (DumpRange a) z = own-dump a z
-  by-task CancelDump z = own-cancel
-  by-task (LoadRange a) z = own-load a z.0 z.1
-  by-task (CountPool i) z = own-pool i z
-  by-task (TellValue v) z = own_value v
+  by_task_lem : (k : Task) → Sized k → Own k
+  unfolding lowest task_rows
+  by_task_lem Nothing z = refl
+  by_task_lem (DumpRange a) z = own_dump a z
+  by_task_lem CancelDump z = own_cancel
+  by_task_lem (LoadRange a) z = own_load a z.0 z.1
+  by_task_lem (CountPool i) z = own_pool i z
+  by_task_lem (TellValue v) z = own_value v
 
   -- 17, 9, 18 AND 9 AGAIN
 
-  abbrev taskBy : Decoded → Task
-  taskBy d = task_of c.symbols (nameIn c.packet) d
+  abbrev task_by : Decoded → Task
+  task_by d = task_of c.symbols (name_in c.packet) d
 
   -- the decision on what a packet asks for
-  abbrev bySoughtHere : Sought → Decision
-  bySoughtHere a = bySought s c.image (commandTransaction c.packet) a
+  abbrev by_sought_here : Sought → Decision
+  by_sought_here a = by_sought s c.image (command_transaction c.packet) a
 
   -- the rows that are left for a packet that passed 4 to 8
   abbrev left : Decoded → Verdict
-  left d = or_else (lowest (askedRows c d)) (lowest (taskRows s c (taskBy d)))
+  left d = or_else (lowest (asked_rows c d)) (lowest (task_rows s c (task_by d)))
 
-  by-command : (k : Command) → concludeAs s c (taskBy (Known k)) (left (Known k)) ≡ carriedOut s c (bySoughtHere (asked_of c.symbols c.packet k))
-  unfolding lowest askedRows asked_of
-  by-command k =
-      let name : List ℕ = nameIn c.packet in
-      either (noTable c.symbols (Known k)) (λ e. rw e)
-      (λ e₁. rw e₁ (either (layoutRules c.packet k)
-      (λ e₂. rw e₂ (either (unknownName c.symbols name (Known k)) (λ e. rw e)
-      (λ e₃. rw e₃ (either (wrongRange c.symbols name (Known k)) (λ e. rw e)
-      (λ e₄. rw e₄ (by-task (taskBy (Known k)) (task-sized c.symbols c.packet k e₂ e₄)))))))
+  by_command : (k : Command) → conclude_as s c (task_by (Known k)) (left (Known k)) ≡ carried_out s c (by_sought_here (asked_of c.symbols c.packet k))
+  unfolding lowest asked_rows asked_of
+  by_command k =
+      let name : List ℕ = name_in c.packet in
+      either (no_table c.symbols (Known k)) (λ e. rw e)
+      (λ e₁. rw e₁ (either (layout_rules c.packet k)
+      (λ e₂. rw e₂ (either (unknown_name c.symbols name (Known k)) (λ e. rw e)
+      (λ e₃. rw e₃ (either (wrong_range c.symbols name (Known k)) (λ e. rw e)
+      (λ e₄. rw e₄ (by_task_lem (task_by (Known k)) (task_sized c.symbols c.packet k e₂ e₄)))))))
       (λ e. rw e)))
 
   -- 6, 7 AND 8: what the function code picks
 
-  by-checked : (k : Command) (v : Verdict)
-      → concludeAs s c (taskBy (Known k)) (or_else v (left (Known k))) ≡ carriedOut s c (bySoughtHere (ifPassed v (asked_of c.symbols c.packet k)))
-  by-checked k (Rejected r) = refl
-  by-checked k Accepted = by-command k
+  by_checked : (k : Command) (v : Verdict)
+      → conclude_as s c (task_by (Known k)) (or_else v (left (Known k))) ≡ carried_out s c (by_sought_here (if_passed v (asked_of c.symbols c.packet k)))
+  by_checked k (Rejected r) = refl
+  by_checked k Accepted = by_command k
 
-  by-decoded : (d : Decoded)
-      → concludeAs s c (taskBy d) (or_else (afterCode c.packet s.unit d) (left d)) ≡ carriedOut s c (bySoughtHere (pickedBy c.packet s.unit c.symbols d))
-  by-decoded Unknown = refl
-  by-decoded (Known k) = by-checked k (checkedBy c.packet s.unit (packetLength k))
+  by_decoded : (d : Decoded)
+      → conclude_as s c (task_by d) (or_else (after_code c.packet s.unit d) (left d)) ≡ carried_out s c (by_sought_here (picked_by c.packet s.unit c.symbols d))
+  by_decoded Unknown = refl
+  by_decoded (Known k) = by_checked k (checked_by c.packet s.unit (packet_length k))
 
   -- 4 AND 5
 
-  by-head : (v : Verdict)
-      → conclude s c (or_else (or_else v (afterCode c.packet s.unit (decode c.packet))) (or_else (lowest (askedRows c (decode c.packet))) (lowest (taskRows s c (task c)))))
-      ≡ carriedOut s c (bySoughtHere (ifPassed v (pickedBy c.packet s.unit c.symbols (decode c.packet))))
+  by_head : (v : Verdict)
+      → conclude s c (or_else (or_else v (after_code c.packet s.unit (decode c.packet))) (or_else (lowest (asked_rows c (decode c.packet))) (lowest (task_rows s c (task c)))))
+      ≡ carried_out s c (by_sought_here (if_passed v (picked_by c.packet s.unit c.symbols (decode c.packet))))
   unfolding task
-  by-head (Rejected r) = refl
-  by-head Accepted =
-      conclude-as s c (or_else (afterCode c.packet s.unit (decode c.packet)) (left (decode c.packet))) ∙ by-decoded (decode c.packet)
+  by_head (Rejected r) = refl
+  by_head Accepted =
+      conclude_as_lem s c (or_else (after_code c.packet s.unit (decode c.packet)) (left (decode c.packet))) ∙ by_decoded (decode c.packet)
 
-  by-frame : conclude s c (or_else (lowest (frameRows c.packet s.unit)) (or_else (lowest (askedRows c (decode c.packet))) (lowest (taskRows s c (task c)))))
-      ≡ carriedOut s c (bySoughtHere (soughtIn c.packet s.unit c.symbols))
-  unfolding soughtIn
-  by-frame = rw (frame-lowest c.packet s.unit) (by-head (headedOf c.packet))
+  by_frame : conclude s c (or_else (lowest (frame_rows c.packet s.unit)) (or_else (lowest (asked_rows c (decode c.packet))) (lowest (task_rows s c (task c)))))
+      ≡ carried_out s c (by_sought_here (sought_in c.packet s.unit c.symbols))
+  unfolding sought_in
+  by_frame = rw (frame_lowest c.packet s.unit) (by_head (headed_of c.packet))
 
 -- 1 TO 3, AND THE CALL
 
-by-lent : (s : State) (c : CommandArgs) (v : Verdict) → lowest (lentRows s c.image replyLength c.reply) ≡ v
+by_lent : (s : State) (c : CommandArgs) (v : Verdict) → lowest (lent_rows s c.image reply_length c.reply) ≡ v
     → conclude s c
     (or_else v
-    (or_else (lowest (frameRows c.packet s.unit)) (or_else (lowest (askedRows c (decode c.packet))) (lowest (taskRows s c (task c))))))
-    ≡ carriedOut s c (bySought s c.image (commandTransaction c.packet) (openedAs v c.packet c.symbols s.unit))
-by-lent s c (Rejected r) e = refl
-by-lent s c Accepted e = by-frame s c (lent_out s c.image replyLength c.reply e)
+    (or_else (lowest (frame_rows c.packet s.unit)) (or_else (lowest (asked_rows c (decode c.packet))) (lowest (task_rows s c (task c))))))
+    ≡ carried_out s c (by_sought s c.image (command_transaction c.packet) (opened_as v c.packet c.symbols s.unit))
+by_lent s c (Rejected r) e = refl
+by_lent s c Accepted e = by_frame s c (lent_out s c.image reply_length c.reply e)
 
 pub decided : Decided
-unfolding commandCall decision
+unfolding command_call decision
 decided s c =
-    rw (command-lowest s c, ← lent-lowest s c.image replyLength c.reply)
-    (by-lent s c (lowest (lentRows s c.image replyLength c.reply)) refl)
+    rw (command_lowest s c, ← lent_lowest s c.image reply_length c.reply)
+    (by_lent s c (lowest (lent_rows s c.image reply_length c.reply)) refl)
 
 -- A STORE THAT SUPPLIES THE FACTS, AND CARRIES THE DECISION OUT
 
-open-accepted : (v : Verdict) (p symbols : List ℕ) (unit : ℕ) (k : Task) → openedAs v p symbols unit ≡ Asked k → v ≡ Accepted
-open-accepted (Rejected r) p symbols unit k h = let z : ◌≡◌ {A = ℕ} 0 1 = cc in absurd (omega arith)
-open-accepted Accepted p symbols unit k h = refl
+open_accepted : (v : Verdict) (p symbols : List ℕ) (unit : ℕ) (k : Task) → opened_as v p symbols unit ≡ Asked k → v ≡ Accepted
+open_accepted (Rejected r) p symbols unit k h = let z : ◌≡◌ {A = ℕ} 0 1 = cc in absurd (omega arith)
+open_accepted Accepted p symbols unit k h = refl
 
 -- its steps give the decision
-module _ (s : State) (c : CommandArgs) {words reply : ℕ} (ew : words ≡ cond (goodState s) (imageLength s.regions s.count) 0)
-    (er : length c.reply ≡ reply) {a : Sought} (ea : a ≡ openedBy words (length c.image) reply c.packet c.symbols s.unit) where
-  opened-as : openedBy (goodWords s) (length c.image) (length c.reply) c.packet c.symbols s.unit ≡ a
-  unfolding goodWords
-  opened-as = rw (er, ← ew) (sym ea)
+module _ (s : State) (c : CommandArgs) {words reply : ℕ} (ew : words ≡ cond (good_state s) (image_length s.regions s.count) 0)
+    (er : length c.reply ≡ reply) {a : Sought} (ea : a ≡ opened_by words (length c.image) reply c.packet c.symbols s.unit) where
+  opened_as_lem : opened_by (good_words s) (length c.image) (length c.reply) c.packet c.symbols s.unit ≡ a
+  unfolding good_words
+  opened_as_lem = rw (er, ← ew) (sym ea)
 
-  pub step-shut : {r : Refusal} → a ≡ Denied r → Refuse r ≡ decision s c
+  pub step_shut : {r : Refusal} → a ≡ Denied r → Refuse r ≡ decision s c
   unfolding decision
-  step-shut h = rw (opened-as, h)
+  step_shut h = rw (opened_as_lem, h)
 
-  pub step-open : {k : Task} {t : ℕ} {d : Decision} → a ≡ Asked k → t ≡ commandTransaction c.packet → (goodState s ≡ true → d ≡ byTask s c.image t k) → d ≡ decision s c
+  pub step_open : {k : Task} {t : ℕ} {d : Decision} → a ≡ Asked k → t ≡ command_transaction c.packet → (good_state s ≡ true → d ≡ by_task s c.image t k) → d ≡ decision s c
   unfolding decision
-  step-open {k} h et f =
-      let lent : Verdict = lent_by (goodWords s) (length c.image) 32 (length c.reply) in
-      rw (opened-as, h, ← et)
-      (f (lent-good s (length c.image) 32 (length c.reply) (open-accepted lent c.packet c.symbols s.unit k (opened-as ∙ h))))
+  step_open {k} h et f =
+      let lent : Verdict = lent_by (good_words s) (length c.image) 32 (length c.reply) in
+      rw (opened_as_lem, h, ← et)
+      (f (lent_good s (length c.image) 32 (length c.reply) (open_accepted lent c.packet c.symbols s.unit k (opened_as_lem ∙ h))))
 
 -- and their effect is the call's
 module _ (s : State) (c : CommandArgs) {d : Decision} (e : d ≡ decision s c) where
-  pub command-done : {answer : Answer} {state : State} {image reply : List ℕ} → answer ≡ answer_of d → state ≡ stateAfter s d
-      → (image ≡ imageAfter d c.packet c.image) × (reply ≡ replyAfter d c.reply)
-      → (record { answer = answer; state = state } ≡ returned (commandCall s c)) × (image ≡ (commandCall s c).image) × (reply ≡ (commandCall s c).buffer)
-  command-done ea es (ei, er) = rw (decided s c, ← e, ea, es, ei, er) (refl, refl, refl)
+  pub command_done : {answer : Answer} {state : State} {image reply : List ℕ} → answer ≡ answer_of d → state ≡ state_after s d
+      → (image ≡ image_after d c.packet c.image) × (reply ≡ reply_after d c.reply)
+      → (record { answer = answer; state = state } ≡ returned (command_call s c)) × (image ≡ (command_call s c).image) × (reply ≡ (command_call s c).buffer)
+  command_done ea es (ei, er) = rw (decided s c, ← e, ea, es, ei, er) (refl, refl, refl)

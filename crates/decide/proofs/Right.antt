@@ -5,25 +5,25 @@ use mathlib.Core.Bool.{Bool, true}
 use mathlib.Core.List.{List}
 use Prim.Native.Nat.{ℕ, ◌≤◌}
 use Rattle.lists.proofs.Tests.{either, contra}
-use Rattle.rules.specs.Regions.{regionAt, tableRules, anyRight, inOneRegion, regionOf}
+use Rattle.rules.specs.Regions.{region_at, table_rules, any_right, in_one_region, region_of}
 use Rattle.rules.specs.GoodWhen.{LiesIn}
-use Rattle.rules.proofs.Table.{one_out, one_in, holds-any, region-holds, holds-unique}
+use Rattle.rules.proofs.Table.{one_out, one_in, holds_any, region_holds, holds_unique}
 use Rattle.rules.specs.declared.Range.{Range}
 use Rattle.rules.specs.declared.Region.{Region}
 
-module _ (right : Region → Bool) (rs : List Region) (n : ℕ) (table : tableRules rs n ≡ true) (a : Range) (some : 1 ≤ a.words) (inside : inOneRegion anyRight rs n a ≡ true) where
-  found : LiesIn anyRight rs n a (regionOf rs n a)
-  found = region-holds rs n a inside
+module _ (right : Region → Bool) (rs : List Region) (n : ℕ) (table : table_rules rs n ≡ true) (a : Range) (some : 1 ≤ a.words) (inside : in_one_region any_right rs n a ≡ true) where
+  found : LiesIn any_right rs n a (region_of rs n a)
+  found = region_holds rs n a inside
 
   -- a region with the right that holds the range is the one found
-  only : inOneRegion right rs n a ≡ true → right (regionAt rs (regionOf rs n a)) ≡ true
+  only : in_one_region right rs n a ≡ true → right (region_at rs (region_of rs n a)) ≡ true
   only h =
       let r = one_out right rs n a h in
-      let same : regionOf rs n a ≡ r.0 = holds-unique rs n table a (regionOf rs n a) r.0 some found (holds-any right rs n a r.0 r.1) in
-      ap (λ (k : ℕ). right (regionAt rs k)) same ∙ r.1.allowed
+      let same : region_of rs n a ≡ r.0 = holds_unique rs n table a (region_of rs n a) r.0 some found (holds_any right rs n a r.0 r.1) in
+      ap (λ (k : ℕ). right (region_at rs k)) same ∙ r.1.allowed
 
-  pub right_there : inOneRegion right rs n a ≡ right (regionAt rs (regionOf rs n a))
+  pub right_there : in_one_region right rs n a ≡ right (region_at rs (region_of rs n a))
   right_there =
-      either (right (regionAt rs (regionOf rs n a)))
-      (λ e. one_in right rs n a (regionOf rs n a) (record { in_use = found.in_use; from = found.from; to = found.to; allowed = e }) ∙ sym e)
-      (λ e. either (inOneRegion right rs n a) (λ h. absurd (contra (only h) e)) (λ h. h ∙ sym e))
+      either (right (region_at rs (region_of rs n a)))
+      (λ e. one_in right rs n a (region_of rs n a) (record { in_use = found.in_use; from = found.from; to = found.to; allowed = e }) ∙ sym e)
+      (λ e. either (in_one_region right rs n a) (λ h. absurd (contra (only h) e)) (λ h. h ∙ sym e))

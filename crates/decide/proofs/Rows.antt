@@ -2,55 +2,55 @@
 -- Assumes nothing.
 use mathlib.Core.Path.{◌≡◌, refl}
 use mathlib.Core.List.{List, [], ◌∷◌, ◌++◌}
-use Rattle.rules.specs.Packets.{decode, commandTransaction, nameIn}
-use Rattle.rules.specs.Pools.{replyLength}
-use Rattle.rules.specs.Results.{Row, row, lowest, lentRows}
-use Rattle.rules.specs.Commands.{CommandArgs, task, noTable, wrongField, unknownName, wrongRange, outside, pastEnd, lacksRight, numberTaken, noPlace, noSuchDump, poolDamaged, commandRows}
+use Rattle.rules.specs.Packets.{decode, command_transaction, name_in}
+use Rattle.rules.specs.Pools.{reply_length}
+use Rattle.rules.specs.Results.{Row, row, lowest, lent_rows}
+use Rattle.rules.specs.Commands.{CommandArgs, task, no_table, wrong_field, unknown_name, wrong_range, outside, past_end, lacks_right, number_taken, no_place, no_such_dump, pool_damaged, command_rows}
 use Rattle.rules.specs.declared.Decoded.{Decoded}
 use Rattle.rules.specs.declared.Refusal.TheVariants.{BadTable, BadField, UnknownSymbol, OutsideRegions, NoRight, TransactionBusy, PlacesBusy, NotBusy, PoolDamaged, RunsOut}
 use Rattle.rules.specs.declared.State.{State}
 use Rattle.rules.specs.declared.Task.{Task}
-use Rattle.packet.specs.Frame.{frameRows}
-use Rattle.opening.proofs.Rows.{or_else, lowest-join}
+use Rattle.packet.specs.Frame.{frame_rows}
+use Rattle.opening.proofs.Rows.{or_else, lowest_join}
 
 -- 17, 9, 18 and 9 again
-unfoldable pub askedRows : CommandArgs → Decoded → List Row
-askedRows c d =
-    row BadTable (noTable c.symbols d)
-    ∷ row BadField (wrongField c.packet d)
-    ∷ row UnknownSymbol (unknownName c.symbols (nameIn c.packet) d)
-    ∷ row BadField (wrongRange c.symbols (nameIn c.packet) d)
+unfoldable pub asked_rows : CommandArgs → Decoded → List Row
+asked_rows c d =
+    row BadTable (no_table c.symbols d)
+    ∷ row BadField (wrong_field c.packet d)
+    ∷ row UnknownSymbol (unknown_name c.symbols (name_in c.packet) d)
+    ∷ row BadField (wrong_range c.symbols (name_in c.packet) d)
     ∷ []
 
 -- 10, 19, and 11 to 15
-unfoldable pub taskRows : State → CommandArgs → Task → List Row
-taskRows s c k =
+unfoldable pub task_rows : State → CommandArgs → Task → List Row
+task_rows s c k =
     row OutsideRegions (outside s k)
-    ∷ row RunsOut (pastEnd s k)
-    ∷ row NoRight (lacksRight s k)
-    ∷ row TransactionBusy (numberTaken s (commandTransaction c.packet) k)
-    ∷ row PlacesBusy (noPlace s k)
-    ∷ row NotBusy (noSuchDump s (commandTransaction c.packet) k)
-    ∷ row PoolDamaged (poolDamaged s c.image k)
+    ∷ row RunsOut (past_end s k)
+    ∷ row NoRight (lacks_right s k)
+    ∷ row TransactionBusy (number_taken s (command_transaction c.packet) k)
+    ∷ row PlacesBusy (no_place s k)
+    ∷ row NotBusy (no_such_dump s (command_transaction c.packet) k)
+    ∷ row PoolDamaged (pool_damaged s c.image k)
     ∷ []
 
 rows_cut : (s : State) (c : CommandArgs)
-    → commandRows s c
-    ≡ lentRows s c.image replyLength c.reply
-    ++ (frameRows c.packet s.unit ++ (askedRows c (decode c.packet) ++ taskRows s c (task c)))
-unfolding commandRows lentRows frameRows askedRows taskRows
+    → command_rows s c
+    ≡ lent_rows s c.image reply_length c.reply
+    ++ (frame_rows c.packet s.unit ++ (asked_rows c (decode c.packet) ++ task_rows s c (task c)))
+unfolding command_rows lent_rows frame_rows asked_rows task_rows
 rows_cut s c = refl
 
-pub command-lowest : (s : State) (c : CommandArgs)
-    → lowest (commandRows s c)
-    ≡ or_else (lowest (lentRows s c.image replyLength c.reply))
-    (or_else (lowest (frameRows c.packet s.unit)) (or_else (lowest (askedRows c (decode c.packet))) (lowest (taskRows s c (task c)))))
-command-lowest s c =
+pub command_lowest : (s : State) (c : CommandArgs)
+    → lowest (command_rows s c)
+    ≡ or_else (lowest (lent_rows s c.image reply_length c.reply))
+    (or_else (lowest (frame_rows c.packet s.unit)) (or_else (lowest (asked_rows c (decode c.packet))) (lowest (task_rows s c (task c)))))
+command_lowest s c =
     rw (
       rows_cut s c,
-      lowest-join
-          (lentRows s c.image replyLength c.reply)
-          (frameRows c.packet s.unit ++ (askedRows c (decode c.packet) ++ taskRows s c (task c))),
-      lowest-join (frameRows c.packet s.unit) (askedRows c (decode c.packet) ++ taskRows s c (task c)),
-      lowest-join (askedRows c (decode c.packet)) (taskRows s c (task c)),
+      lowest_join
+          (lent_rows s c.image reply_length c.reply)
+          (frame_rows c.packet s.unit ++ (asked_rows c (decode c.packet) ++ task_rows s c (task c))),
+      lowest_join (frame_rows c.packet s.unit) (asked_rows c (decode c.packet) ++ task_rows s c (task c)),
+      lowest_join (asked_rows c (decode c.packet)) (task_rows s c (task c)),
     )

@@ -1,7 +1,7 @@
 // The decisions of the command call: pure functions on facts. A store of the state supplies the facts and carries the decision out.
 ghost use Rattle.std.specs.Prelude.{◌≡◌};
 ghost use Rattle.rules.specs.Results.{counted};
-ghost use Rattle.decide.specs.Decisions.{decideDump, decideCancel, decideLoad, decidePool, answer_of, imageAfter, replyAfter, Decided};
+ghost use Rattle.decide.specs.Decisions.{decide_dump, decide_cancel, decide_load, decide_pool, answer_of, image_after, reply_after, Decided};
 
 use bulk::{store_words, words_at};
 use places::Seat;
@@ -55,7 +55,7 @@ pub enum Decision {
 
 // A dump: `busy` is the lowest place busy with its number, `idle` the lowest idle one; 4 where there is none.
 pub fn dump(t: u16, range: Range, found: Found, busy: usize, idle: usize) -> Decision
-    ensures { result ≡ decideDump t range found busy idle }
+    ensures { result ≡ decide_dump t range found busy idle }
 {
     match found {
         Found::StartsOutside => Decision::Refuse(Refusal::OutsideRegions),
@@ -82,7 +82,7 @@ pub fn dump(t: u16, range: Range, found: Found, busy: usize, idle: usize) -> Dec
 
 // A cancel: `busy` is the lowest place busy with its number, or 4.
 pub fn cancel(busy: usize) -> Decision
-    ensures { result ≡ decideCancel busy }
+    ensures { result ≡ decide_cancel busy }
 {
     if 4 <= busy {
         return Decision::Refuse(Refusal::NotBusy);
@@ -92,7 +92,7 @@ pub fn cancel(busy: usize) -> Decision
 
 // A load: `at` is the index in the image of the first word of its range, where that was found.
 pub fn load(range: Range, found: Found, at: WordIndex) -> Decision
-    ensures { result ≡ decideLoad range found at }
+    ensures { result ≡ decide_load range found at }
 {
     match found {
         Found::StartsOutside => Decision::Refuse(Refusal::OutsideRegions),
@@ -118,7 +118,7 @@ pub fn pool_statistics(
     at: WordIndex,
     image: &[u32],
 ) -> Decision
-    ensures { result ≡ decidePool header i pool found at image.now }
+    ensures { result ≡ decide_pool header i pool found at image.now }
 {
     if pool.words == 0 {
         return Decision::Refuse(Refusal::OutsideRegions);
@@ -186,7 +186,7 @@ pub fn answer_of(d: Decision) -> Answer
 
 // The image and the reply after a command.
 pub fn write_out(d: Decision, packet: &[u8], image: &mut [u32], reply: &mut [u8])
-    ensures { (image.new ≡ imageAfter d packet.now image.old) × (reply.new ≡ replyAfter d reply.old) }
+    ensures { (image.new ≡ image_after d packet.now image.old) × (reply.new ≡ reply_after d reply.old) }
 {
     match d {
         Decision::Refuse(_) => {}

@@ -1,9 +1,9 @@
 // The ground desk's check of a whole dump (paper 02, A6). It reads the packets' headers, and no data word.
 ghost use Rattle.std.specs.Prelude.{◌≡◌, ◌*◌, ◌/◌, ◌≤◌, ◌<◌, eqb, length, get_or, replicate};
-ghost use Rattle.lists.specs.Below.{firstBelow};
-ghost use Rattle.rules.specs.Ground.{packetFields};
-ghost use Rattle.whole_dump.specs.Check.{bytesBefore, unfit, agree, firstBad, checkDump};
-ghost use Rattle.dump_check.specs.Marks.{pieceIn, Marked};
+ghost use Rattle.lists.specs.Below.{first_below};
+ghost use Rattle.rules.specs.Ground.{packet_fields};
+ghost use Rattle.whole_dump.specs.Check.{bytes_before, unfit, agree, first_bad, check_dump};
+ghost use Rattle.dump_check.specs.Marks.{piece_in, Marked};
 
 use packet_reader::packet_verdict;
 use rules::Verdict;
@@ -12,7 +12,7 @@ use wire::{read16, read32};
 // The bytes of the first n packets.
 fn bytes_listed(lengths: &[u8], n: usize) -> usize
     requires { (n ≤ 65) × (2 * n ≤ length lengths.now) }
-    ensures { result ≡ bytesBefore lengths.now n }
+    ensures { result ≡ bytes_before lengths.now n }
 {
     let mut total: u32 = 0;
     let mut i: usize = 0;
@@ -40,7 +40,7 @@ fn is_unfit(bytes: &[u8], lengths: &[u8]) -> bool
 // Whether two packets have the same unit, transaction, requested address and requested words.
 fn agreeing(p: &[u8], q: &[u8]) -> bool
     requires { (28 ≤ length p.now) × (28 ≤ length q.now) }
-    ensures { result ≡ agree (packetFields p.now) (packetFields q.now) }
+    ensures { result ≡ agree (packet_fields p.now) (packet_fields q.now) }
 {
     (read16(p, 6) == read16(q, 6))
         & (read32(p, 12) == read32(q, 12))
@@ -50,7 +50,7 @@ fn agreeing(p: &[u8], q: &[u8]) -> bool
 // The piece that packet p has; 65, which is none, where it is refused or does not agree with the first.
 fn piece_in(first: &[u8], p: &[u8]) -> usize
     requires { length p.now ≤ length first.now }
-    ensures { result ≡ pieceIn first.now p.now }
+    ensures { result ≡ piece_in first.now p.now }
 {
     let verdict = packet_verdict(p);
     match verdict {
@@ -69,7 +69,7 @@ fn piece_in(first: &[u8], p: &[u8]) -> usize
 // How many packets come before the first bad one. Their pieces are marked.
 fn sound_packets(bytes: &[u8], lengths: &[u8], seen: &mut [u8]) -> usize
     requires { (length lengths.now / 2 ≤ 65) × (seen.old ≡ replicate 65 0) }
-    ensures { (result ≡ firstBad bytes.now lengths.now) × Marked bytes.now lengths.now result seen.new }
+    ensures { (result ≡ first_bad bytes.now lengths.now) × Marked bytes.now lengths.now result seen.new }
 {
     let n = lengths.len() / 2;
     let mut at: usize = 0;
@@ -96,7 +96,7 @@ fn sound_packets(bytes: &[u8], lengths: &[u8], seen: &mut [u8]) -> usize
 // The lowest of m pieces that is not marked; m where all are.
 fn first_unmarked(seen: &[u8], m: usize) -> usize
     requires { m ≤ length seen.now }
-    ensures { result ≡ firstBelow (λ j. eqb (get_or seen.now j 0) 0) m }
+    ensures { result ≡ first_below (λ j. eqb (get_or seen.now j 0) 0) m }
 {
     let mut k: usize = 0;
     while k < m {
@@ -110,7 +110,7 @@ fn first_unmarked(seen: &[u8], m: usize) -> usize
 
 // 3; 65,536 and the number of the first bad packet; 131,072 and the lowest missing piece; or 0.
 pub fn check_dump(bytes: &[u8], lengths: &[u8]) -> u32
-    ensures { result ≡ checkDump bytes.now lengths.now }
+    ensures { result ≡ check_dump bytes.now lengths.now }
 {
     if is_unfit(bytes, lengths) {
         return 3;

@@ -17,65 +17,65 @@ use Rattle.block.specs.Runs.{runs}
 -- A COMMAND READ FROM WORDS
 
 -- sequence count, unit, transaction: a number beyond its type stands as the type's greatest, which is out of the field's bounds too
-abbrev pub headerIn : List ℕ → Header
-headerIn b = record { count = min 65535 (word b 1); unit = min 255 (word b 2); transaction = min 65535 (word b 3) }
+abbrev pub header_in : List ℕ → Header
+header_in b = record { count = min 65535 (word b 1); unit = min 255 (word b 2); transaction = min 65535 (word b 3) }
 
 -- a size beyond 16 bits stands as 0, which is out of bounds too
-abbrev pub sizeIn : ℕ → ℕ
-sizeIn w = cond (leb w 65535) w 0
+abbrev pub size_in : ℕ → ℕ
+size_in w = cond (leb w 65535) w 0
 
-abbrev pub requestIn : List ℕ → Request
-requestIn b = record { size = sizeIn (word b 4); address = record { 0 = word b 5 } }
+abbrev pub request_in : List ℕ → Request
+request_in b = record { size = size_in (word b 4); address = record { 0 = word b 5 } }
 
-abbrev pub symbolRequestIn : List ℕ → SymbolRequest
-symbolRequestIn b = record { name = min 255 (word b 19); offset = word b 20; size = sizeIn (word b 4) }
+abbrev pub symbol_request_in : List ℕ → SymbolRequest
+symbol_request_in b = record { name = min 255 (word b 19); offset = word b 20; size = size_in (word b 4) }
 
 -- the command by the function code
-unfoldable pub commandIn : List ℕ → Decoded
-commandIn b =
-    cond (eqb (word b 0) 0) (Known (Dump (requestIn b)))
+unfoldable pub command_in : List ℕ → Decoded
+command_in b =
+    cond (eqb (word b 0) 0) (Known (Dump (request_in b)))
     (cond (eqb (word b 0) 1) (Known Cancel)
-    (cond (eqb (word b 0) 4) (Known (Load (requestIn b)))
+    (cond (eqb (word b 0) 4) (Known (Load (request_in b)))
     (cond (eqb (word b 0) 7) (Known (PoolStatistics (min 65535 (word b 6))))
     (cond (eqb (word b 0) 8) (Known (SymbolValue (min 255 (word b 19))))
-    (cond (eqb (word b 0) 9) (Known (DumpSymbol (symbolRequestIn b))) Unknown)))))
+    (cond (eqb (word b 0) 9) (Known (DumpSymbol (symbol_request_in b))) Unknown)))))
 
 -- the twelve words beside the command
-abbrev pub dataIn : List ℕ → List ℕ
-dataIn b = runs (λ k. word b (7 + k) ∷ []) 12
+abbrev pub data_in : List ℕ → List ℕ
+data_in b = runs (λ k. word b (7 + k) ∷ []) 12
 
 -- A COMMAND AS WORDS
 
 -- size, address and pool; what a code does not use is 0
-abbrev pub bodyWords : Command → List ℕ
-bodyWords (Dump q) = q.size ∷ q.address.0 ∷ 0 ∷ []
-bodyWords Cancel = 0 ∷ 0 ∷ 0 ∷ []
-bodyWords (Load q) = q.size ∷ q.address.0 ∷ 0 ∷ []
-bodyWords (PoolStatistics i) = 0 ∷ 0 ∷ i ∷ []
-bodyWords (SymbolValue n) = 0 ∷ 0 ∷ 0 ∷ []
-bodyWords (DumpSymbol q) = q.size ∷ 0 ∷ 0 ∷ []
+abbrev pub body_words : Command → List ℕ
+body_words (Dump q) = q.size ∷ q.address.0 ∷ 0 ∷ []
+body_words Cancel = 0 ∷ 0 ∷ 0 ∷ []
+body_words (Load q) = q.size ∷ q.address.0 ∷ 0 ∷ []
+body_words (PoolStatistics i) = 0 ∷ 0 ∷ i ∷ []
+body_words (SymbolValue n) = 0 ∷ 0 ∷ 0 ∷ []
+body_words (DumpSymbol q) = q.size ∷ 0 ∷ 0 ∷ []
 
 -- after the twelve words: name size and offset; what a code does not use is 0
-abbrev pub tailWords : Command → List ℕ
-tailWords (Dump q) = 0 ∷ 0 ∷ []
-tailWords Cancel = 0 ∷ 0 ∷ []
-tailWords (Load q) = 0 ∷ 0 ∷ []
-tailWords (PoolStatistics i) = 0 ∷ 0 ∷ []
-tailWords (SymbolValue n) = n ∷ 0 ∷ []
-tailWords (DumpSymbol q) = q.name ∷ q.offset ∷ []
+abbrev pub tail_words : Command → List ℕ
+tail_words (Dump q) = 0 ∷ 0 ∷ []
+tail_words Cancel = 0 ∷ 0 ∷ []
+tail_words (Load q) = 0 ∷ 0 ∷ []
+tail_words (PoolStatistics i) = 0 ∷ 0 ∷ []
+tail_words (SymbolValue n) = n ∷ 0 ∷ []
+tail_words (DumpSymbol q) = q.name ∷ q.offset ∷ []
 
 -- function code, sequence count, unit, transaction, and the body
-abbrev pub headWords : Telecommand → List ℕ
-headWords f =
-    code_of f.command ∷ f.header.count ∷ f.header.unit ∷ f.header.transaction ∷ bodyWords f.command
+abbrev pub head_words : Telecommand → List ℕ
+head_words f =
+    code_of f.command ∷ f.header.count ∷ f.header.unit ∷ f.header.transaction ∷ body_words f.command
 
 -- the 21 words of a command block: the command's own, the twelve beside it, and the last two
-abbrev pub blockWords : Telecommand → List ℕ → List ℕ
-blockWords f ws = headWords f ++ ws ++ tailWords f.command
+abbrev pub block_words : Telecommand → List ℕ → List ℕ
+block_words f ws = head_words f ++ ws ++ tail_words f.command
 
 -- A DUMP PACKET AS WORDS
 
 -- sequence count, unit, transaction, tick, requested address, requested words, address of this packet's data, words in this packet
-abbrev pub fieldWords : DumpPacket → List ℕ
-fieldWords f =
+abbrev pub field_words : DumpPacket → List ℕ
+field_words f =
     f.header.count ∷ f.header.unit ∷ f.header.transaction ∷ f.tick ∷ start_of f.range ∷ f.range.words ∷ f.here.0 ∷ f.words ∷ []

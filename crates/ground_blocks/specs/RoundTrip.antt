@@ -3,7 +3,7 @@ use Rattle.std.specs.Prelude.{◌≡◌, List, ℕ, ◌<◌, length}
 use Rattle.rules.specs.ReadBack.{CommandFits}
 use Rattle.rules.specs.declared.Decoded.TheVariants.{Known}
 use Rattle.rules.specs.declared.Telecommand.{Telecommand}
-use Rattle.ground_blocks.specs.Fields.{headerIn, commandIn, dataIn, blockWords}
+use Rattle.ground_blocks.specs.Fields.{header_in, command_in, data_in, block_words}
 
 -- numbers fit their types
 pub record FieldsFit (f : Telecommand) : Type 0 where
@@ -13,6 +13,6 @@ pub record FieldsFit (f : Telecommand) : Type 0 where
   pub command : CommandFits f.command
 
 pub record CommandRoundTrip : Type 0 where
-  pub header : (f : Telecommand) (ws : List ℕ) → FieldsFit f → headerIn (blockWords f ws) ≡ f.header
-  pub command : (f : Telecommand) (ws : List ℕ) → FieldsFit f → length ws ≡ 12 → commandIn (blockWords f ws) ≡ Known f.command
-  pub words : (f : Telecommand) (ws : List ℕ) → length ws ≡ 12 → dataIn (blockWords f ws) ≡ ws
+  pub header : (f : Telecommand) (ws : List ℕ) → FieldsFit f → header_in (block_words f ws) ≡ f.header
+  pub command : (f : Telecommand) (ws : List ℕ) → FieldsFit f → length ws ≡ 12 → command_in (block_words f ws) ≡ Known f.command
+  pub words : (f : Telecommand) (ws : List ℕ) → length ws ≡ 12 → data_in (block_words f ws) ≡ ws

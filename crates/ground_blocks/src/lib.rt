@@ -1,6 +1,6 @@
 // The command block and the dump packet block of the C interface: fields read from words, and words made of fields.
 ghost use Rattle.std.specs.Prelude.{◌≡◌, min};
-ghost use Rattle.ground_blocks.specs.Fields.{headerIn, sizeIn, requestIn, symbolRequestIn, commandIn, bodyWords, headWords, tailWords, fieldWords};
+ghost use Rattle.ground_blocks.specs.Fields.{header_in, size_in, request_in, symbol_request_in, command_in, body_words, head_words, tail_words, field_words};
 ghost use Rattle.ground_blocks.specs.RoundTrip.{CommandRoundTrip};
 
 use block::word_at;
@@ -35,13 +35,13 @@ fn at_most_8(w: u32) -> u8
 }
 
 fn size_in(w: u32) -> u16
-    ensures { result ≡ sizeIn w }
+    ensures { result ≡ size_in w }
 {
     if w <= 65535 { w as u16 } else { 0 }
 }
 
 pub fn header_in(b: &[u32]) -> Header
-    ensures { result ≡ headerIn b.now }
+    ensures { result ≡ header_in b.now }
 {
     let count = at_most_16(word_at(b, 1));
     let unit = at_most_8(word_at(b, 2));
@@ -54,7 +54,7 @@ pub fn header_in(b: &[u32]) -> Header
 }
 
 fn request_in(b: &[u32]) -> Request
-    ensures { result ≡ requestIn b.now }
+    ensures { result ≡ request_in b.now }
 {
     let size = size_in(word_at(b, 4));
     let address = Address(word_at(b, 5));
@@ -62,7 +62,7 @@ fn request_in(b: &[u32]) -> Request
 }
 
 fn symbol_request_in(b: &[u32]) -> SymbolRequest
-    ensures { result ≡ symbolRequestIn b.now }
+    ensures { result ≡ symbol_request_in b.now }
 {
     let name = at_most_8(word_at(b, 19));
     let offset = word_at(b, 20);
@@ -71,7 +71,7 @@ fn symbol_request_in(b: &[u32]) -> SymbolRequest
 }
 
 pub fn command_in(b: &[u32]) -> Decoded
-    ensures { result ≡ commandIn b.now }
+    ensures { result ≡ command_in b.now }
 {
     let code = word_at(b, 0);
     match code {
@@ -88,7 +88,7 @@ pub fn command_in(b: &[u32]) -> Decoded
 // A COMMAND AS WORDS
 
 fn body_words(k: Command) -> [u32; 3]
-    ensures { result ≡ bodyWords k }
+    ensures { result ≡ body_words k }
 {
     match k {
         Command::Dump(q) => [q.size as u32, q.address.0, 0],
@@ -101,7 +101,7 @@ fn body_words(k: Command) -> [u32; 3]
 }
 
 pub fn head_words(f: Telecommand) -> [u32; 7]
-    ensures { result ≡ headWords f }
+    ensures { result ≡ head_words f }
 {
     let k = f.command;
     let code = code_of(k) as u32;
@@ -119,7 +119,7 @@ pub fn head_words(f: Telecommand) -> [u32; 7]
 
 // The words after the twelve beside a command: name size and offset.
 pub fn tail_words(k: Command) -> [u32; 2]
-    ensures { result ≡ tailWords k }
+    ensures { result ≡ tail_words k }
 {
     match k {
         Command::Dump(_) => [0; 2],
@@ -134,7 +134,7 @@ pub fn tail_words(k: Command) -> [u32; 2]
 // A DUMP PACKET AS WORDS
 
 pub fn field_words(f: DumpPacket) -> [u32; 8]
-    ensures { result ≡ fieldWords f }
+    ensures { result ≡ field_words f }
 {
     [
         f.header.count as u32,

@@ -1,19 +1,19 @@
 -- The batch of the C interface (c/leatgarnet.h): the single calls of C, in order.
 use Rattle.std.specs.Prelude.{List, ℕ}
 use Rattle.rules.specs.Commands.{CommandArgs}
-use Rattle.block.specs.Calls.{lgCommand}
+use Rattle.block.specs.Calls.{lg_command}
 use Rattle.batches.specs.Batch.{BatchArgs, Single, Batch, batch}
 
 -- the command call of C on a block
-abbrev pub onBlock : List ℕ → CommandArgs → Single (List ℕ)
-onBlock b c =
+abbrev pub on_block : List ℕ → CommandArgs → Single (List ℕ)
+on_block b c =
     record {
-      number = (lgCommand b c).number;
-      length = (lgCommand b c).bytes;
-      state = (lgCommand b c).state;
-      image = (lgCommand b c).image;
-      reply = (lgCommand b c).buffer;
+      number = (lg_command b c).number;
+      length = (lg_command b c).bytes;
+      state = (lg_command b c).state;
+      image = (lg_command b c).image;
+      reply = (lg_command b c).buffer;
     }
 
-abbrev pub lgCommands : List ℕ → BatchArgs → ℕ → Batch (List ℕ)
-lgCommands b a records = batch onBlock b a records
+abbrev pub lg_commands : List ℕ → BatchArgs → ℕ → Batch (List ℕ)
+lg_commands b a records = batch on_block b a records

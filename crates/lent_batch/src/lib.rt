@@ -2,11 +2,11 @@
 // good and any other as it was; and so is the symbol table, which no command writes.
 ghost use Rattle.std.specs.Prelude.{◌≡◌, false, ◌+◌, ◌*◌, ◌≤◌, ◌<◌, min, length, set, take, drop};
 ghost use Rattle.lists.specs.Splice.{splice};
-ghost use Rattle.rules.specs.Results.{verdictNumber};
-ghost use Rattle.block.specs.Calls.{goodWords};
+ghost use Rattle.rules.specs.Results.{verdict_number};
+ghost use Rattle.block.specs.Calls.{good_words};
 ghost use Rattle.symbols.specs.Answers.{KnownOf};
-ghost use Rattle.batches.specs.Batch.{lends, unfitBy, leftBy, LeftAs, filled, numbersOf, lengthsOf, Answers};
-ghost use Rattle.lent_batch.specs.Batches.{onBlock, lgCommands};
+ghost use Rattle.batches.specs.Batch.{lends, unfit_by, left_by, LeftAs, filled, numbers_of, lengths_of, Answers};
+ghost use Rattle.lent_batch.specs.Batches.{on_block, lg_commands};
 
 use answers::Answered;
 use batches::{batch_verdict, bytes_from, lesser};
@@ -30,13 +30,13 @@ fn item(
     sizes: &mut [u8],
     i: usize,
 )
-    requires { (words ≡ goodWords b.old) × KnownOf known symbols.now × (32 * i + 32 ≤ length replies.old) × (i < length numbers.old) × (i < length sizes.old) }
-    ensures { (b.new ≡ (onBlock b.old (record { packet = packet.entry.now; symbols = symbols.now; image = image.old; reply = take 32 (drop (32 * i) replies.old) })).state)
-        × (image.new ≡ (onBlock b.old (record { packet = packet.entry.now; symbols = symbols.now; image = image.old; reply = take 32 (drop (32 * i) replies.old) })).image)
-        × (replies.new ≡ splice replies.old (32 * i) (onBlock b.old (record { packet = packet.entry.now; symbols = symbols.now; image = image.old; reply = take 32 (drop (32 * i) replies.old) })).reply)
-        × (numbers.new ≡ set numbers.old i (onBlock b.old (record { packet = packet.entry.now; symbols = symbols.now; image = image.old; reply = take 32 (drop (32 * i) replies.old) })).number)
-        × (sizes.new ≡ set sizes.old i (onBlock b.old (record { packet = packet.entry.now; symbols = symbols.now; image = image.old; reply = take 32 (drop (32 * i) replies.old) })).length)
-        × (goodWords b.new ≡ goodWords b.old) }
+    requires { (words ≡ good_words b.old) × KnownOf known symbols.now × (32 * i + 32 ≤ length replies.old) × (i < length numbers.old) × (i < length sizes.old) }
+    ensures { (b.new ≡ (on_block b.old (record { packet = packet.entry.now; symbols = symbols.now; image = image.old; reply = take 32 (drop (32 * i) replies.old) })).state)
+        × (image.new ≡ (on_block b.old (record { packet = packet.entry.now; symbols = symbols.now; image = image.old; reply = take 32 (drop (32 * i) replies.old) })).image)
+        × (replies.new ≡ splice replies.old (32 * i) (on_block b.old (record { packet = packet.entry.now; symbols = symbols.now; image = image.old; reply = take 32 (drop (32 * i) replies.old) })).reply)
+        × (numbers.new ≡ set numbers.old i (on_block b.old (record { packet = packet.entry.now; symbols = symbols.now; image = image.old; reply = take 32 (drop (32 * i) replies.old) })).number)
+        × (sizes.new ≡ set sizes.old i (on_block b.old (record { packet = packet.entry.now; symbols = symbols.now; image = image.old; reply = take 32 (drop (32 * i) replies.old) })).length)
+        × (good_words b.new ≡ good_words b.old) }
 {
     let mut bytes: u32 = 0;
     let from = 32 * i;
@@ -91,12 +91,12 @@ fn run(
     numbers: &mut [u8],
     sizes: &mut [u8],
 )
-    requires { unfitBy (length starts.now) (length lengths.now) (min (length numbers.old) (length sizes.old)) (length replies.old) ≡ false }
-    ensures { (b.new ≡ (leftBy onBlock (lends bytes.now starts.now lengths.now symbols.now image.old replies.old) b.old (length starts.now)).state)
-        × (image.new ≡ (leftBy onBlock (lends bytes.now starts.now lengths.now symbols.now image.old replies.old) b.old (length starts.now)).image)
-        × (replies.new ≡ (leftBy onBlock (lends bytes.now starts.now lengths.now symbols.now image.old replies.old) b.old (length starts.now)).replies)
-        × (numbers.new ≡ filled numbers.old (numbersOf (leftBy onBlock (lends bytes.now starts.now lengths.now symbols.now image.old replies.old) b.old (length starts.now)).answers))
-        × (sizes.new ≡ filled sizes.old (lengthsOf (leftBy onBlock (lends bytes.now starts.now lengths.now symbols.now image.old replies.old) b.old (length starts.now)).answers)) }
+    requires { unfit_by (length starts.now) (length lengths.now) (min (length numbers.old) (length sizes.old)) (length replies.old) ≡ false }
+    ensures { (b.new ≡ (left_by on_block (lends bytes.now starts.now lengths.now symbols.now image.old replies.old) b.old (length starts.now)).state)
+        × (image.new ≡ (left_by on_block (lends bytes.now starts.now lengths.now symbols.now image.old replies.old) b.old (length starts.now)).image)
+        × (replies.new ≡ (left_by on_block (lends bytes.now starts.now lengths.now symbols.now image.old replies.old) b.old (length starts.now)).replies)
+        × (numbers.new ≡ filled numbers.old (numbers_of (left_by on_block (lends bytes.now starts.now lengths.now symbols.now image.old replies.old) b.old (length starts.now)).answers))
+        × (sizes.new ≡ filled sizes.old (lengths_of (left_by on_block (lends bytes.now starts.now lengths.now symbols.now image.old replies.old) b.old (length starts.now)).answers)) }
 {
     let words = good_words(b);
     let known = known_for(bytes, starts, lengths, symbols);
@@ -122,10 +122,10 @@ pub fn commands(
     numbers: &mut [u8],
     sizes: &mut [u8],
 ) -> Verdict
-    ensures { (result ≡ (lgCommands b.old (lends bytes.now starts.now lengths.now symbols.now image.old replies.old) (min (length numbers.old) (length sizes.old))).verdict)
-        × LeftAs (lgCommands b.old (lends bytes.now starts.now lengths.now symbols.now image.old replies.old) (min (length numbers.old) (length sizes.old))) b.new image.new replies.new
-        × (numbers.new ≡ filled numbers.old (numbersOf (lgCommands b.old (lends bytes.now starts.now lengths.now symbols.now image.old replies.old) (min (length numbers.old) (length sizes.old))).left.answers))
-        × (sizes.new ≡ filled sizes.old (lengthsOf (lgCommands b.old (lends bytes.now starts.now lengths.now symbols.now image.old replies.old) (min (length numbers.old) (length sizes.old))).left.answers)) }
+    ensures { (result ≡ (lg_commands b.old (lends bytes.now starts.now lengths.now symbols.now image.old replies.old) (min (length numbers.old) (length sizes.old))).verdict)
+        × LeftAs (lg_commands b.old (lends bytes.now starts.now lengths.now symbols.now image.old replies.old) (min (length numbers.old) (length sizes.old))) b.new image.new replies.new
+        × (numbers.new ≡ filled numbers.old (numbers_of (lg_commands b.old (lends bytes.now starts.now lengths.now symbols.now image.old replies.old) (min (length numbers.old) (length sizes.old))).left.answers))
+        × (sizes.new ≡ filled sizes.old (lengths_of (lg_commands b.old (lends bytes.now starts.now lengths.now symbols.now image.old replies.old) (min (length numbers.old) (length sizes.old))).left.answers)) }
 {
     let records = lesser(numbers.len(), sizes.len());
     let verdict = batch_verdict(starts.len(), lengths.len(), records, replies.len());
@@ -149,9 +149,9 @@ pub fn answered(
     replies: &mut [u8],
     records: usize,
 ) -> Answered
-    ensures { (result.number ≡ verdictNumber (lgCommands b.old (lends bytes.now starts.now lengths.now symbols.now image.old replies.old) records).verdict)
-        × Answers result records (lgCommands b.old (lends bytes.now starts.now lengths.now symbols.now image.old replies.old) records).left.answers
-        × LeftAs (lgCommands b.old (lends bytes.now starts.now lengths.now symbols.now image.old replies.old) records) b.new image.new replies.new }
+    ensures { (result.number ≡ verdict_number (lg_commands b.old (lends bytes.now starts.now lengths.now symbols.now image.old replies.old) records).verdict)
+        × Answers result records (lg_commands b.old (lends bytes.now starts.now lengths.now symbols.now image.old replies.old) records).left.answers
+        × LeftAs (lg_commands b.old (lends bytes.now starts.now lengths.now symbols.now image.old replies.old) records) b.new image.new replies.new }
 {
     let mut numbers: [u8; 64] = [0; 64];
     let mut sizes: [u8; 64] = [0; 64];

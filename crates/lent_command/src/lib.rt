@@ -1,11 +1,11 @@
 // The command call on a block of words: the facts from the words, the decision, and the words that change.
 ghost use Rattle.std.specs.Prelude.{◌≡◌, true, ◌&&◌, List, ℕ, length};
-ghost use Rattle.rules.specs.States.{goodState};
-ghost use Rattle.block.specs.Blocks.{state_of, isBlock};
-ghost use Rattle.block.specs.Calls.{goodWords, lgCommand};
+ghost use Rattle.rules.specs.States.{good_state};
+ghost use Rattle.block.specs.Blocks.{state_of, is_block};
+ghost use Rattle.block.specs.Calls.{good_words, lg_command};
 ghost use Rattle.symbols.specs.Answers.{KnownOf};
-ghost use Rattle.decide.specs.Decisions.{byTask};
-ghost use Rattle.lent_command.specs.OnBlock.{decisionOn, blockAfter};
+ghost use Rattle.decide.specs.Decisions.{by_task};
+ghost use Rattle.lent_command.specs.OnBlock.{decision_on, block_after};
 
 use block::{raise, range_in, word_at};
 use decide::{
@@ -22,8 +22,8 @@ use tasks::Sought;
 
 // The decision on a task in a good state, by the facts that this task asks for.
 fn by_task(b: &[u32], t: u16, k: Task, image: &[u32]) -> Decision
-    requires { (isBlock b.now && goodState (state_of b.now)) ≡ true }
-    ensures { result ≡ byTask (state_of b.now) image.now t k }
+    requires { (is_block b.now && good_state (state_of b.now)) ≡ true }
+    ensures { result ≡ by_task (state_of b.now) image.now t k }
 {
     let ps = &b[54..74];
     match k {
@@ -65,8 +65,8 @@ fn decide(
     image: &[u32],
     reply: usize,
 ) -> Decision
-    requires { (words ≡ goodWords b.now) × KnownOf known symbols.now }
-    ensures { (bytes : List ℕ) → length bytes ≡ reply → result ≡ decisionOn b.now (record { packet = packet.entry.now; symbols = symbols.now; image = image.now; reply = bytes }) }
+    requires { (words ≡ good_words b.now) × KnownOf known symbols.now }
+    ensures { (bytes : List ℕ) → length bytes ≡ reply → result ≡ decision_on b.now (record { packet = packet.entry.now; symbols = symbols.now; image = image.now; reply = bytes }) }
 {
     let unit = (word_at(b, 53) % 256) as u8;
     let sought = opened_by(words, image.len(), reply, packet, symbols, known, unit);
@@ -78,7 +78,7 @@ fn decide(
 
 // The words that a decision changes: the places and counts of an accepted command, the refused count of a refused one.
 fn apply(b: &mut [u32], d: Decision)
-    ensures { b.new ≡ blockAfter b.old d }
+    ensures { b.new ≡ block_after b.old d }
 {
     match d {
         Decision::Refuse(r) => {
@@ -118,12 +118,12 @@ pub fn tested(
     reply: &mut [u8],
     bytes: &mut u32,
 ) -> u32
-    requires { (words ≡ goodWords b.old) × KnownOf known symbols.now }
-    ensures { (result ≡ (lgCommand b.old (record { packet = packet.entry.now; symbols = symbols.now; image = image.old; reply = reply.old })).number)
-        × (b.new ≡ (lgCommand b.old (record { packet = packet.entry.now; symbols = symbols.now; image = image.old; reply = reply.old })).state)
-        × (image.new ≡ (lgCommand b.old (record { packet = packet.entry.now; symbols = symbols.now; image = image.old; reply = reply.old })).image)
-        × (reply.new ≡ (lgCommand b.old (record { packet = packet.entry.now; symbols = symbols.now; image = image.old; reply = reply.old })).buffer)
-        × (bytes.new ≡ (lgCommand b.old (record { packet = packet.entry.now; symbols = symbols.now; image = image.old; reply = reply.old })).bytes) }
+    requires { (words ≡ good_words b.old) × KnownOf known symbols.now }
+    ensures { (result ≡ (lg_command b.old (record { packet = packet.entry.now; symbols = symbols.now; image = image.old; reply = reply.old })).number)
+        × (b.new ≡ (lg_command b.old (record { packet = packet.entry.now; symbols = symbols.now; image = image.old; reply = reply.old })).state)
+        × (image.new ≡ (lg_command b.old (record { packet = packet.entry.now; symbols = symbols.now; image = image.old; reply = reply.old })).image)
+        × (reply.new ≡ (lg_command b.old (record { packet = packet.entry.now; symbols = symbols.now; image = image.old; reply = reply.old })).buffer)
+        × (bytes.new ≡ (lg_command b.old (record { packet = packet.entry.now; symbols = symbols.now; image = image.old; reply = reply.old })).bytes) }
 {
     let d = decide(b, words, packet, symbols, known, image, reply.len());
     write_out(d, packet, image, reply);
@@ -140,11 +140,11 @@ pub fn command(
     reply: &mut [u8],
     bytes: &mut u32,
 ) -> u32
-    ensures { (result ≡ (lgCommand b.old (record { packet = packet.entry.now; symbols = symbols.now; image = image.old; reply = reply.old })).number)
-        × (b.new ≡ (lgCommand b.old (record { packet = packet.entry.now; symbols = symbols.now; image = image.old; reply = reply.old })).state)
-        × (image.new ≡ (lgCommand b.old (record { packet = packet.entry.now; symbols = symbols.now; image = image.old; reply = reply.old })).image)
-        × (reply.new ≡ (lgCommand b.old (record { packet = packet.entry.now; symbols = symbols.now; image = image.old; reply = reply.old })).buffer)
-        × (bytes.new ≡ (lgCommand b.old (record { packet = packet.entry.now; symbols = symbols.now; image = image.old; reply = reply.old })).bytes) }
+    ensures { (result ≡ (lg_command b.old (record { packet = packet.entry.now; symbols = symbols.now; image = image.old; reply = reply.old })).number)
+        × (b.new ≡ (lg_command b.old (record { packet = packet.entry.now; symbols = symbols.now; image = image.old; reply = reply.old })).state)
+        × (image.new ≡ (lg_command b.old (record { packet = packet.entry.now; symbols = symbols.now; image = image.old; reply = reply.old })).image)
+        × (reply.new ≡ (lg_command b.old (record { packet = packet.entry.now; symbols = symbols.now; image = image.old; reply = reply.old })).buffer)
+        × (bytes.new ≡ (lg_command b.old (record { packet = packet.entry.now; symbols = symbols.now; image = image.old; reply = reply.old })).bytes) }
 {
     let words = good_words(b);
     tested(

@@ -4,12 +4,12 @@ use Rattle.std.specs.Prelude.{List, [], ◌∷◌, ℕ, ◌*◌, ◌%◌}
 use Rattle.rules.specs.declared.Context.{Context}
 use Rattle.rules.specs.declared.Context.TheVariants.{Idle, Busy}
 use Rattle.rules.specs.declared.Place.{Place}
-use Rattle.block.specs.Blocks.{contextIn}
+use Rattle.block.specs.Blocks.{context_in}
 use Rattle.block.specs.Runs.{runs}
 
-abbrev pub contextRead : Context → Context
-contextRead Idle = Idle
-contextRead (Busy d) = Busy (record { transaction = d.transaction % 65536; range = d.range; sent = d.sent })
+abbrev pub context_read : Context → Context
+context_read Idle = Idle
+context_read (Busy d) = Busy (record { transaction = d.transaction % 65536; range = d.range; sent = d.sent })
 
-unfoldable pub placesRead : List ℕ → List Place
-placesRead ps = runs (λ i. record { context = contextRead (contextIn ps (5 * i)) } ∷ []) 4
+unfoldable pub places_read : List ℕ → List Place
+places_read ps = runs (λ i. record { context = context_read (context_in ps (5 * i)) } ∷ []) 4

@@ -1,12 +1,12 @@
 // The dump places of a block: 20 words, five to a place (busy, transaction, start, words, sent), read and written in the caller's memory.
 // Words past the end read as 0. What one place does is in places.
 ghost use Rattle.std.specs.Prelude.{◌≡◌, ◌||◌, ◌*◌, ◌<◌, min, leb};
-ghost use Rattle.rules.specs.States.{contextAt, busyWith};
-ghost use Rattle.rules.specs.Commands.{isIdle, firstIdle};
-ghost use Rattle.rules.specs.Slots.{nextPlace};
-ghost use Rattle.places.specs.Turns.{nextTurn, firstWithin};
-ghost use Rattle.block.specs.Blocks.{contextWords, placesIn, placeBounds};
-ghost use Rattle.lent_places.specs.Reading.{placesRead};
+ghost use Rattle.rules.specs.States.{context_at, busy_with};
+ghost use Rattle.rules.specs.Commands.{is_idle, first_idle};
+ghost use Rattle.rules.specs.Slots.{next_place};
+ghost use Rattle.places.specs.Turns.{next_turn, first_within};
+ghost use Rattle.block.specs.Blocks.{context_words, places_in, place_bounds};
+ghost use Rattle.lent_places.specs.Reading.{places_read};
 ghost use Rattle.lent_places.specs.Writing.{placed};
 
 use block::{put_run, range_in, word_at};
@@ -17,7 +17,7 @@ use rules::{ActiveDump, Context};
 
 // Whether place i is five zeros, or busy with a transaction number of 16 bits. There is nothing past the last place.
 pub fn place_bounds(ps: &[u32], i: usize) -> bool
-    ensures { result ≡ (leb 4 i || placeBounds ps.now (5 * i)) }
+    ensures { result ≡ (leb 4 i || place_bounds ps.now (5 * i)) }
 {
     if 4 <= i {
         return true;
@@ -35,7 +35,7 @@ pub fn place_bounds(ps: &[u32], i: usize) -> bool
 
 // What place i does; there is nothing past the last.
 pub fn context_at(ps: &[u32], i: usize) -> Context
-    ensures { result ≡ contextAt (placesRead ps.now) i }
+    ensures { result ≡ context_at (places_read ps.now) i }
 {
     if 4 <= i {
         return Context::Idle;
@@ -58,14 +58,14 @@ pub fn context_at(ps: &[u32], i: usize) -> Context
 
 fn idle_at(ps: &[u32], i: usize) -> bool
     requires { i < 4 }
-    ensures { (result ≡ isIdle (contextAt (placesIn ps.now 0) i)) × (result ≡ isIdle (contextAt (placesRead ps.now) i)) }
+    ensures { (result ≡ is_idle (context_at (places_in ps.now 0) i)) × (result ≡ is_idle (context_at (places_read ps.now) i)) }
 {
     word_at(ps, 5 * i) != 1
 }
 
 fn with_at(ps: &[u32], t: u16, i: usize) -> bool
     requires { i < 4 }
-    ensures { result ≡ busyWith t (contextAt (placesIn ps.now 0) i) }
+    ensures { result ≡ busy_with t (context_at (places_in ps.now 0) i) }
 {
     (word_at(ps, 5 * i) == 1) & (word_at(ps, 5 * i + 1) == t as u32)
 }
@@ -78,7 +78,7 @@ fn at_most_4(k: usize) -> usize
 
 // The lowest of the first k places that is busy with transaction t, and k where there is none.
 pub fn first_with(ps: &[u32], t: u16, k: usize) -> usize
-    ensures { result ≡ firstWithin (placesIn ps.now 0) t k }
+    ensures { result ≡ first_within (places_in ps.now 0) t k }
 {
     let n = at_most_4(k);
     let mut i: usize = 0;
@@ -93,7 +93,7 @@ pub fn first_with(ps: &[u32], t: u16, k: usize) -> usize
 
 // The lowest-numbered idle place, and 4 where there is none.
 pub fn first_idle(ps: &[u32]) -> usize
-    ensures { result ≡ firstIdle (placesIn ps.now 0) }
+    ensures { result ≡ first_idle (places_in ps.now 0) }
 {
     let mut i: usize = 0;
     while i < 4 {
@@ -107,7 +107,7 @@ pub fn first_idle(ps: &[u32]) -> usize
 
 // Whose turn it is: the busy place that comes next after the one served last, place 0 again after place 3.
 fn next_place(ps: &[u32], last: u32) -> usize
-    ensures { result ≡ nextPlace (placesRead ps.now) last }
+    ensures { result ≡ next_place (places_read ps.now) last }
 {
     let from = last as usize + 1;
     let mut k: usize = 0;
@@ -123,7 +123,7 @@ fn next_place(ps: &[u32], last: u32) -> usize
 
 // Whose packet is next.
 pub fn next_turn(ps: &[u32], last: u32) -> Turn
-    ensures { result ≡ nextTurn (placesRead ps.now) last }
+    ensures { result ≡ next_turn (places_read ps.now) last }
 {
     let at = next_place(ps, last);
     turn_of(at, context_at(ps, at))
@@ -132,7 +132,7 @@ pub fn next_turn(ps: &[u32], last: u32) -> Turn
 // WRITTEN
 
 fn context_words(c: Context) -> [u32; 5]
-    ensures { result ≡ contextWords c }
+    ensures { result ≡ context_words c }
 {
     match c {
         Context::Idle => [0; 5],

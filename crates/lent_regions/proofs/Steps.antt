@@ -9,104 +9,104 @@ use lib.Dec.{leb, eqb}
 use lib.ListN.{length}
 use borrow.Author.Tests.{le-leb, lt-leb, lt-ltb, le-ltb}
 use Rattle.lists.specs.Below.{all_below}
-use Rattle.rules.specs.Regions.{start_of, end_of, tableRules, first_of, noRegion, regionAt, rangeAt, endBefore, regionRules, wordsBelow}
+use Rattle.rules.specs.Regions.{start_of, end_of, table_rules, first_of, no_region, region_at, range_at, end_before, region_rules, words_below}
 use Rattle.rules.specs.declared.Range.{Range}
 use Rattle.rules.specs.declared.Region.{Region}
 use Rattle.rules.specs.declared.WordIndex.{WordIndex}
-use Rattle.regions.specs.Halving.{regionByHalving, findByHalving}
-use Rattle.regions.specs.Lookup.{rulesBy, holdsBy, FoundWhen, wordIndex, IndexWhen}
+use Rattle.regions.specs.Halving.{region_by_halving, find_by_halving}
+use Rattle.regions.specs.Lookup.{rules_by, holds_by, FoundWhen, word_index, IndexWhen}
 use Rattle.regions.specs.declared.Found.{Found}
 use Rattle.regions.specs.declared.Found.TheVariants.{At, StartsOutside, EndsOutside}
-use Rattle.regions.proofs.Steps.{end_more, words_more, found-short, found_at}
-use Rattle.regions.proofs.Answers.{found-exactly, indexed}
-use Rattle.block.specs.Blocks.{word, rangeIn, regionIn, regionsIn, regionsBounds}
+use Rattle.regions.proofs.Steps.{end_more, words_more, found_short, found_at}
+use Rattle.regions.proofs.Answers.{found_exactly, indexed}
+use Rattle.block.specs.Blocks.{word, range_in, region_in, regions_in, regions_bounds}
 use Rattle.block.proofs.Runs.{list_at}
-use Rattle.lent_regions.specs.Finding.{findIn, wordIndexIn}
+use Rattle.lent_regions.specs.Finding.{find_in, word_index_in}
 
 module _ (w : List ℕ) (i : ℕ) (l : i < 16) where
-  region-at : regionAt (regionsIn w 0) i ≡ regionIn w (3 * i)
-  region-at = let e : 0 + 3 * i ≡ 3 * i = omega arith in list_at noRegion (λ k. regionIn w (0 + 3 * k)) 16 i l ∙ ap (regionIn w) e
+  region_at_lem : region_at (regions_in w 0) i ≡ region_in w (3 * i)
+  region_at_lem = let e : 0 + 3 * i ≡ 3 * i = omega arith in list_at no_region (λ k. region_in w (0 + 3 * k)) 16 i l ∙ ap (region_in w) e
 
-  range_at : rangeAt (regionsIn w 0) i ≡ rangeIn w (3 * i)
-  range_at = ap (λ (r : Region). r.range) region-at
+  range_at_lem : range_at (regions_in w 0) i ≡ range_in w (3 * i)
+  range_at_lem = ap (λ (r : Region). r.range) region_at_lem
 
   -- start and size as they were read
   module _ (start words : ℕ) (es : start ≡ word w (3 * i)) (ew : words ≡ word w (3 * i + 1)) where
-    pub rules-at : (before : ℕ) → before ≡ endBefore (regionsIn w 0) i → rulesBy start words before ≡ regionRules (regionsIn w 0) i
-    rules-at before e = rw (e, es, ew, range_at)
+    pub rules_at : (before : ℕ) → before ≡ end_before (regions_in w 0) i → rules_by start words before ≡ region_rules (regions_in w 0) i
+    rules_at before e = rw (e, es, ew, range_at_lem)
 
-    pub end-at : start + 4 * words ≡ endBefore (regionsIn w 0) (i + 1)
-    end-at = sym (rw (range_at, ← es, ← ew) at (sym (end_more (regionsIn w 0) i)))
+    pub end_at : start + 4 * words ≡ end_before (regions_in w 0) (i + 1)
+    end_at = sym (rw (range_at_lem, ← es, ← ew) at (sym (end_more (regions_in w 0) i)))
 
-    pub words-at : wordsBelow (regionsIn w 0) i + words ≡ wordsBelow (regionsIn w 0) (i + 1)
-    words-at = rw (ew) (rw range_at at (words_more (regionsIn w 0) i))
+    pub words_at_lem : words_below (regions_in w 0) i + words ≡ words_below (regions_in w 0) (i + 1)
+    words_at_lem = rw (ew) (rw range_at_lem at (words_more (regions_in w 0) i))
 
-    pub end_is : {e : ℕ} → e ≡ start + 4 * words → e ≡ end_of (rangeAt (regionsIn w 0) i)
-    end_is ee = ee ∙ rw (es, ew, range_at)
+    pub end_is : {e : ℕ} → e ≡ start + 4 * words → e ≡ end_of (range_at (regions_in w 0) i)
+    end_is ee = ee ∙ rw (es, ew, range_at_lem)
 
     pub held_at : (from end : ℕ)
-        → holdsBy start words from end ≡ holdsBy (start_of (rangeAt (regionsIn w 0) i)) (rangeAt (regionsIn w 0) i).words from end
-    held_at from end = rw (es, ew, range_at)
+        → holds_by start words from end ≡ holds_by (start_of (range_at (regions_in w 0) i)) (range_at (regions_in w 0) i).words from end
+    held_at from end = rw (es, ew, range_at_lem)
 
   -- the region that holds the first word, and its end against the range's
-  abbrev endRead : ℕ
-  endRead = word w (3 * i) + 4 * word w (3 * i + 1)
+  abbrev end_read : ℕ
+  end_read = word w (3 * i) + 4 * word w (3 * i + 1)
 
-  end_read : end_of (rangeAt (regionsIn w 0) i) ≡ endRead
-  end_read = rw range_at
+  end_read_lem : end_of (range_at (regions_in w 0) i) ≡ end_read
+  end_read_lem = rw range_at_lem
 
-  pub found-past : (m : ℕ) (a : Range) → i ≡ regionByHalving (regionsIn w 0) m (first_of a) → i < m → endRead < end_of a
-      → EndsOutside ≡ findByHalving (regionsIn w 0) m a
-  found-past m a ei k q = found-short (regionsIn w 0) m a i ei k (rw end_read q)
+  pub found_past : (m : ℕ) (a : Range) → i ≡ region_by_halving (regions_in w 0) m (first_of a) → i < m → end_read < end_of a
+      → EndsOutside ≡ find_by_halving (regions_in w 0) m a
+  found_past m a ei k q = found_short (regions_in w 0) m a i ei k (rw end_read_lem q)
 
   -- the region found, with its rights as they were read
-  pub found_here : (m : ℕ) (a : Range) → i ≡ regionByHalving (regionsIn w 0) m (first_of a) → i < m → end_of a ≤ endRead
+  pub found_here : (m : ℕ) (a : Range) → i ≡ region_by_halving (regions_in w 0) m (first_of a) → i < m → end_of a ≤ end_read
       → (rights : ℕ) → rights ≡ word w (3 * i + 2)
-      → At (record { region = i; load = eqb (rights % 2) 1; dump = leb 2 rights }) ≡ findByHalving (regionsIn w 0) m a
-  found_here m a ei k q rights er = rw (er) (rw region-at at (found_at (regionsIn w 0) m a i ei k (rw end_read q)))
+      → At (record { region = i; load = eqb (rights % 2) 1; dump = leb 2 rights }) ≡ find_by_halving (regions_in w 0) m a
+  found_here m a ei k q rights er = rw (er) (rw region_at_lem at (found_at (regions_in w 0) m a i ei k (rw end_read_lem q)))
 
 -- THE RIGHTS of the entries in use
-pub rights-all : (w : List ℕ) (n m i : ℕ) → m ≡ min n 16 → i ≤ m → m ≤ i → all_below (λ k. leb (word w (0 + 3 * k + 2)) 3) i ≡ regionsBounds w 0 n
-unfolding regionsBounds
-rights-all w n m i em l q = let e : i ≡ min n 16 = omega arith in rw e
+pub rights_all : (w : List ℕ) (n m i : ℕ) → m ≡ min n 16 → i ≤ m → m ≤ i → all_below (λ k. leb (word w (0 + 3 * k + 2)) 3) i ≡ regions_bounds w 0 n
+unfolding regions_bounds
+rights_all w n m i em l q = let e : i ≡ min n 16 = omega arith in rw e
 
 -- FEWER WORDS THAN A TABLE, and the words of one: what is found, and each number exactly in its case
 module _ (w : List ℕ) (n : ℕ) (a : Range) where
   abbrev Promised : Found → Type 0
-  Promised f = (f ≡ findIn w n a) × (48 ≤ length w → tableRules (regionsIn w 0) n ≡ true → FoundWhen (regionsIn w 0) n a f)
+  Promised f = (f ≡ find_in w n a) × (48 ≤ length w → table_rules (regions_in w 0) n ≡ true → FoundWhen (regions_in w 0) n a f)
 
-  pub no_table : length w < 48 → Promised StartsOutside
-  unfolding findIn
-  no_table l = (rw (lt-leb 48 (length w) l), λ k. absurd (omega arith))
+  pub no_table_lem : length w < 48 → Promised StartsOutside
+  unfolding find_in
+  no_table_lem l = (rw (lt-leb 48 (length w) l), λ k. absurd (omega arith))
 
-  pub of-table : 48 ≤ length w → findIn w n a ≡ findByHalving (regionsIn w 0) (min n 16) a
-  unfolding findIn
-  of-table l = rw (le-leb 48 (length w) l)
+  pub of_table : 48 ≤ length w → find_in w n a ≡ find_by_halving (regions_in w 0) (min n 16) a
+  unfolding find_in
+  of_table l = rw (le-leb 48 (length w) l)
 
-  pub in_table : 48 ≤ length w → {f : Found} → f ≡ findByHalving (regionsIn w 0) (min n 16) a → Promised f
-  in_table l e = (e ∙ sym (of-table l), λ k. found-exactly (regionsIn w 0) n a e)
+  pub in_table : 48 ≤ length w → {f : Found} → f ≡ find_by_halving (regions_in w 0) (min n 16) a → Promised f
+  in_table l e = (e ∙ sym (of_table l), λ k. found_exactly (regions_in w 0) n a e)
 
 -- likewise the index of a range that region k holds
 module _ (w : List ℕ) (k : ℕ) (a : Range) where
   abbrev IndexPromised : WordIndex → Type 0
   IndexPromised x =
-      (x ≡ wordIndexIn w k a) × (48 ≤ length w → (n : ℕ) → tableRules (regionsIn w 0) n ≡ true → IndexWhen (regionsIn w 0) n k a x)
+      (x ≡ word_index_in w k a) × (48 ≤ length w → (n : ℕ) → table_rules (regions_in w 0) n ≡ true → IndexWhen (regions_in w 0) n k a x)
 
-  pub index-of-table : 48 ≤ length w → wordIndexIn w k a ≡ wordIndex (regionsIn w 0) k a
-  unfolding wordIndexIn
-  index-of-table l = rw (le-leb 48 (length w) l)
+  pub index_of_table : 48 ≤ length w → word_index_in w k a ≡ word_index (regions_in w 0) k a
+  unfolding word_index_in
+  index_of_table l = rw (le-leb 48 (length w) l)
 
-  index-in-table : 48 ≤ length w → {x : WordIndex} → x ≡ wordIndex (regionsIn w 0) k a → IndexPromised x
-  index-in-table l {x} e = (e ∙ sym (index-of-table l), λ m. (indexed (regionsIn w 0) a k x e).1)
+  index_in_table : 48 ≤ length w → {x : WordIndex} → x ≡ word_index (regions_in w 0) k a → IndexPromised x
+  index_in_table l {x} e = (e ∙ sym (index_of_table l), λ m. (indexed (regions_in w 0) a k x e).1)
 
   -- no table, no such region, and the region by its words
   pub no_index : length w < 48 → IndexPromised (record { 0 = 0 })
-  unfolding wordIndexIn
+  unfolding word_index_in
   no_index l = (rw (lt-leb 48 (length w) l), λ m. absurd (omega arith))
 
-  pub index-past : 48 ≤ length w → 16 ≤ k → IndexPromised (record { 0 = 0 })
-  index-past l past = index-in-table l (rw (le-ltb k 16 past))
+  pub index_past : 48 ≤ length w → 16 ≤ k → IndexPromised (record { 0 = 0 })
+  index_past l past = index_in_table l (rw (le-ltb k 16 past))
 
-  pub index-here : 48 ≤ length w → k < 16 → (below before : ℕ) → below ≡ wordsBelow (regionsIn w 0) k → before ≡ (start_of a - word w (3 * k)) / 4
+  pub index_here : 48 ≤ length w → k < 16 → (below before : ℕ) → below ≡ words_below (regions_in w 0) k → before ≡ (start_of a - word w (3 * k)) / 4
       → IndexPromised (record { 0 = below + before })
-  index-here l low below before eb eo = index-in-table l (rw (eb, eo, lt-ltb k 16 low, range_at w k low))
+  index_here l low below before eb eo = index_in_table l (rw (eb, eo, lt-ltb k 16 low, range_at_lem w k low))

@@ -1,10 +1,10 @@
 // The region table of a block: 48 words, three to a region (start, size, rights), in the caller's memory. The rules of one region are in regions.
 ghost use Rattle.std.specs.Prelude.{◌≡◌, true, ℕ, ◌*◌, ◌≤◌, min, length};
-ghost use Rattle.rules.specs.Regions.{tableRules, wordsBelow};
-ghost use Rattle.regions.specs.Halving.{regionByHalving, compared, AtMostFive};
-ghost use Rattle.regions.specs.Lookup.{tableWords, FoundWhen, IndexWhen};
-ghost use Rattle.block.specs.Blocks.{regionsIn, regionsBounds};
-ghost use Rattle.lent_regions.specs.Finding.{findIn, wordIndexIn};
+ghost use Rattle.rules.specs.Regions.{table_rules, words_below};
+ghost use Rattle.regions.specs.Halving.{region_by_halving, compared, AtMostFive};
+ghost use Rattle.regions.specs.Lookup.{table_words, FoundWhen, IndexWhen};
+ghost use Rattle.block.specs.Blocks.{regions_in, regions_bounds};
+ghost use Rattle.lent_regions.specs.Finding.{find_in, word_index_in};
 
 use block::word_at;
 use regions::{
@@ -15,7 +15,7 @@ use rules::{Range, WordIndex};
 // Whether none of the n entries in use has rights over 3.
 pub fn rights_bounds(rs: &[u32], n: usize) -> bool
     requires { 48 ≤ length rs.now }
-    ensures { result ≡ regionsBounds rs.now 0 n }
+    ensures { result ≡ regions_bounds rs.now 0 n }
 {
     let m = entries(n);
     let mut all = true;
@@ -29,7 +29,7 @@ pub fn rights_bounds(rs: &[u32], n: usize) -> bool
 
 // The words of the image of the first n regions, or 0 where the table breaks a rule. Words past the end are 0.
 pub fn table_words(rs: &[u32], n: usize) -> usize
-    ensures { result ≡ tableWords (regionsIn rs.now 0) n }
+    ensures { result ≡ table_words (regions_in rs.now 0) n }
 {
     if (n == 0) | (16 < n) {
         return 0;
@@ -53,7 +53,7 @@ pub fn table_words(rs: &[u32], n: usize) -> usize
 // The region that holds the range whole, by halving. Right for a table by the rules, since that is in order.
 fn region_of(rs: &[u32], n: usize, a: Range) -> Searched
     requires { 48 ≤ length rs.now }
-    ensures { (result.region ≡ regionByHalving (regionsIn rs.now 0) (min n 16) a) × (result.compared ≡ length (compared (regionsIn rs.now 0) (min n 16) a)) × AtMostFive (regionsIn rs.now 0) (min n 16) a }
+    ensures { (result.region ≡ region_by_halving (regions_in rs.now 0) (min n 16) a) × (result.compared ≡ length (compared (regions_in rs.now 0) (min n 16) a)) × AtMostFive (regions_in rs.now 0) (min n 16) a }
 {
     let m = entries(n);
     let from = a.start.0;
@@ -85,7 +85,7 @@ fn region_of(rs: &[u32], n: usize, a: Range) -> Searched
 // The words of the first k regions.
 fn words_below(rs: &[u32], k: usize) -> usize
     requires { (48 ≤ length rs.now) × (k ≤ 16) }
-    ensures { (result ≡ wordsBelow (regionsIn rs.now 0) k) × (result ≤ 4294967296 * k) }
+    ensures { (result ≡ words_below (regions_in rs.now 0) k) × (result ≤ 4294967296 * k) }
 {
     let mut total: usize = 0;
     let mut i: usize = 0;
@@ -98,7 +98,7 @@ fn words_below(rs: &[u32], k: usize) -> usize
 
 // The region that holds the range whole, or how it missed. The search is for its first word.
 pub fn find_region(rs: &[u32], n: usize, a: Range) -> Found
-    ensures { (result ≡ findIn rs.now n a) × (48 ≤ length rs.now → tableRules (regionsIn rs.now 0) n ≡ true → FoundWhen (regionsIn rs.now 0) n a result) }
+    ensures { (result ≡ find_in rs.now n a) × (48 ≤ length rs.now → table_rules (regions_in rs.now 0) n ≡ true → FoundWhen (regions_in rs.now 0) n a result) }
 {
     if rs.len() < 48 {
         return Found::StartsOutside;
@@ -122,7 +122,7 @@ pub fn find_region(rs: &[u32], n: usize, a: Range) -> Found
 // The index in the image of the first word of a range that region k holds. Only this makes an index from an address, and only those ask it that
 // read or write the range's words.
 pub fn word_index(rs: &[u32], k: u8, a: Range) -> WordIndex
-    ensures { (result ≡ wordIndexIn rs.now k a) × (48 ≤ length rs.now → (n : ℕ) → tableRules (regionsIn rs.now 0) n ≡ true → IndexWhen (regionsIn rs.now 0) n k a result) }
+    ensures { (result ≡ word_index_in rs.now k a) × (48 ≤ length rs.now → (n : ℕ) → table_rules (regions_in rs.now 0) n ≡ true → IndexWhen (regions_in rs.now 0) n k a result) }
 {
     if rs.len() < 48 {
         return WordIndex(0);

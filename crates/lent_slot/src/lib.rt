@@ -1,11 +1,11 @@
 // The slot call on a block of words: the next packet of the dump whose turn it is, or 1, 2, 3 or 16.
 ghost use Rattle.std.specs.Prelude.{◌≡◌, true, ◌&&◌, List, ℕ, length};
-ghost use Rattle.rules.specs.States.{goodState};
-ghost use Rattle.block.specs.Blocks.{state_of, isBlock};
-ghost use Rattle.block.specs.Calls.{lgSlot};
-ghost use Rattle.places.specs.Turns.{nextTurn};
-ghost use Rattle.sending.specs.Sendings.{byTurn};
-ghost use Rattle.lent_slot.specs.OnBlock.{sendingOn, blockSent};
+ghost use Rattle.rules.specs.States.{good_state};
+ghost use Rattle.block.specs.Blocks.{state_of, is_block};
+ghost use Rattle.block.specs.Calls.{lg_slot};
+ghost use Rattle.places.specs.Turns.{next_turn};
+ghost use Rattle.sending.specs.Sendings.{by_turn};
+ghost use Rattle.lent_slot.specs.OnBlock.{sending_on, block_sent};
 
 use block::{raise, set_word, word_at};
 use lent_places::{next_turn, put_context};
@@ -18,8 +18,8 @@ use sending::{Sending, nothing_to_send, send, send_out};
 
 // The decision on a slot of a good state.
 fn by_turn(b: &[u32], tick: u32) -> Sending
-    requires { (isBlock b.now && goodState (state_of b.now)) ≡ true }
-    ensures { result ≡ byTurn (state_of b.now) tick (nextTurn (state_of b.now).places (state_of b.now).last) }
+    requires { (is_block b.now && good_state (state_of b.now)) ≡ true }
+    ensures { result ≡ by_turn (state_of b.now) tick (next_turn (state_of b.now).places (state_of b.now).last) }
 {
     let turn = next_turn(&b[54..74], word_at(b, 74));
     match turn {
@@ -37,7 +37,7 @@ fn by_turn(b: &[u32], tick: u32) -> Sending
 
 // The decision on a slot: what the call would send.
 fn decide(b: &[u32], tick: u32, image: usize, buffer: usize) -> Sending
-    ensures { (words bytes : List ℕ) → length words ≡ image → length bytes ≡ buffer → result ≡ sendingOn b.now (record { tick = tick; image = words; buffer = bytes }) }
+    ensures { (words bytes : List ℕ) → length words ≡ image → length bytes ≡ buffer → result ≡ sending_on b.now (record { tick = tick; image = words; buffer = bytes }) }
 {
     let lent = lent_verdict(good_words(b), image, 4092, buffer);
     match lent {
@@ -48,7 +48,7 @@ fn decide(b: &[u32], tick: u32, image: usize, buffer: usize) -> Sending
 
 // The words that a decision changes: the place, the last place and the packet count.
 fn apply(b: &mut [u32], d: Sending)
-    ensures { b.new ≡ blockSent b.old d }
+    ensures { b.new ≡ block_sent b.old d }
 {
     match d {
         Sending::Keep(_) => {}
@@ -63,10 +63,10 @@ fn apply(b: &mut [u32], d: Sending)
 
 // The slot call: its number, and in `bytes` the length of the packet.
 pub fn slot(b: &mut [u32], tick: u32, image: &[u32], buffer: &mut [u8], bytes: &mut u32) -> u32
-    ensures { (result ≡ (lgSlot b.old tick image.now buffer.old).number)
-        × (b.new ≡ (lgSlot b.old tick image.now buffer.old).state)
-        × (buffer.new ≡ (lgSlot b.old tick image.now buffer.old).buffer)
-        × (bytes.new ≡ (lgSlot b.old tick image.now buffer.old).bytes) }
+    ensures { (result ≡ (lg_slot b.old tick image.now buffer.old).number)
+        × (b.new ≡ (lg_slot b.old tick image.now buffer.old).state)
+        × (buffer.new ≡ (lg_slot b.old tick image.now buffer.old).buffer)
+        × (bytes.new ≡ (lg_slot b.old tick image.now buffer.old).bytes) }
 {
     let d = decide(b, tick, image.len(), buffer.len());
     apply(b, d);

@@ -1,14 +1,14 @@
 // The state in a block of the caller's memory: whether it is good, and start-up. The regions, pools and places of a block are parts of it.
 ghost use Rattle.std.specs.Prelude.{◌≡◌, true, ◌&&◌, ◌<◌, ◌≤◌, length, replicate};
 ghost use Rattle.lists.specs.Below.{all_below};
-ghost use Rattle.rules.specs.Regions.{tableRules};
-ghost use Rattle.rules.specs.Results.{verdictNumber};
-ghost use Rattle.rules.specs.States.{poolRules, dumpRules, noState, goodState};
-ghost use Rattle.regions.specs.Lookup.{findRegion, foundIndex};
-ghost use Rattle.block.specs.Blocks.{word, block_of, state_of, isBlock, regionsIn};
-ghost use Rattle.block.specs.Calls.{goodWords, lgStartUp};
-ghost use Rattle.lent_state.specs.Tests.{goodTable, wordRules, poolsRules, placeTests};
-ghost use Rattle.lent_state.specs.Writing.{tableWritten};
+ghost use Rattle.rules.specs.Regions.{table_rules};
+ghost use Rattle.rules.specs.Results.{verdict_number};
+ghost use Rattle.rules.specs.States.{pool_rules, dump_rules, no_state, good_state};
+ghost use Rattle.regions.specs.Lookup.{find_region, found_index};
+ghost use Rattle.block.specs.Blocks.{word, block_of, state_of, is_block, regions_in};
+ghost use Rattle.block.specs.Calls.{good_words, lg_start_up};
+ghost use Rattle.lent_state.specs.Tests.{good_table, word_rules, pools_rules, place_tests};
+ghost use Rattle.lent_state.specs.Writing.{table_written};
 
 use block::{put_run, range_in, set_word, word_at};
 use lent_places::{context_at, first_with, place_bounds};
@@ -20,8 +20,8 @@ use rules::{ActiveDump, Context, Range, Refusal, Verdict, WordIndex};
 // THE RULES, over the 48 words of a table by its rules
 
 fn pool_rules(rs: &[u32], n: usize, p: Range) -> bool
-    requires { (length rs.now ≡ 48) × (tableRules (regionsIn rs.now 0) n ≡ true) }
-    ensures { result ≡ poolRules (regionsIn rs.now 0) n p }
+    requires { (length rs.now ≡ 48) × (table_rules (regions_in rs.now 0) n ≡ true) }
+    ensures { result ≡ pool_rules (regions_in rs.now 0) n p }
 {
     if p.words == 0 {
         return p.start.0 == 0;
@@ -34,8 +34,8 @@ fn pool_rules(rs: &[u32], n: usize, p: Range) -> bool
 
 // The two pools, in four words.
 fn pools_rules(rs: &[u32], n: usize, pools: &[u32]) -> bool
-    requires { (length rs.now ≡ 48) × (tableRules (regionsIn rs.now 0) n ≡ true) }
-    ensures { result ≡ poolsRules (regionsIn rs.now 0) n pools.now 0 }
+    requires { (length rs.now ≡ 48) × (table_rules (regions_in rs.now 0) n ≡ true) }
+    ensures { result ≡ pools_rules (regions_in rs.now 0) n pools.now 0 }
 {
     let p = range_in(pools, 0);
     let q = range_in(pools, 2);
@@ -44,8 +44,8 @@ fn pools_rules(rs: &[u32], n: usize, pools: &[u32]) -> bool
 
 // A busy dump: its own fields first.
 fn dump_rules(rs: &[u32], n: usize, d: ActiveDump) -> bool
-    requires { (length rs.now ≡ 48) × (tableRules (regionsIn rs.now 0) n ≡ true) }
-    ensures { result ≡ dumpRules (regionsIn rs.now 0) n d }
+    requires { (length rs.now ≡ 48) × (table_rules (regions_in rs.now 0) n ≡ true) }
+    ensures { result ≡ dump_rules (regions_in rs.now 0) n d }
 {
     if !dump_fields(d) {
         return false;
@@ -55,8 +55,8 @@ fn dump_rules(rs: &[u32], n: usize, d: ActiveDump) -> bool
 }
 
 fn place_rules(rs: &[u32], n: usize, ps: &[u32], i: usize) -> bool
-    requires { (length rs.now ≡ 48) × (tableRules (regionsIn rs.now 0) n ≡ true) × (i < 4) }
-    ensures { result ≡ placeTests (regionsIn rs.now 0) n ps.now 0 i }
+    requires { (length rs.now ≡ 48) × (table_rules (regions_in rs.now 0) n ≡ true) × (i < 4) }
+    ensures { result ≡ place_tests (regions_in rs.now 0) n ps.now 0 i }
 {
     if !place_bounds(ps, i) {
         return false;
@@ -69,8 +69,8 @@ fn place_rules(rs: &[u32], n: usize, ps: &[u32], i: usize) -> bool
 }
 
 fn places_rules(rs: &[u32], n: usize, ps: &[u32]) -> bool
-    requires { (length rs.now ≡ 48) × (tableRules (regionsIn rs.now 0) n ≡ true) }
-    ensures { result ≡ all_below (placeTests (regionsIn rs.now 0) n ps.now 0) 4 }
+    requires { (length rs.now ≡ 48) × (table_rules (regions_in rs.now 0) n ≡ true) }
+    ensures { result ≡ all_below (place_tests (regions_in rs.now 0) n ps.now 0) 4 }
 {
     let mut i: usize = 0;
     while i < 4 {
@@ -83,7 +83,7 @@ fn places_rules(rs: &[u32], n: usize, ps: &[u32]) -> bool
 }
 
 fn word_rules(b: &[u32]) -> bool
-    ensures { result ≡ wordRules b.now }
+    ensures { result ≡ word_rules b.now }
 {
     (word_at(b, 53) <= 15)
         & (word_at(b, 74) <= 3)
@@ -98,7 +98,7 @@ fn word_rules(b: &[u32]) -> bool
 
 // The words of the image of a block that is a good state, else 0.
 pub fn good_words(b: &[u32]) -> usize
-    ensures { result ≡ goodWords b.now }
+    ensures { result ≡ good_words b.now }
 {
     if b.len() != 80 {
         return 0;
@@ -126,7 +126,7 @@ pub fn good_words(b: &[u32]) -> usize
 // Whether a block of 54 words is a table that start-up takes.
 fn table_good(t: &[u32]) -> bool
     requires { length t.now ≡ 54 }
-    ensures { result ≡ goodTable t.now }
+    ensures { result ≡ good_table t.now }
 {
     let n = word_at(t, 1) as usize;
     let rs = &t[6..54];
@@ -152,7 +152,7 @@ fn put_zeros(b: &mut [u32])
 // The state of zero regions.
 fn put_none(b: &mut [u32])
     requires { length b.old ≡ 80 }
-    ensures { b.new ≡ block_of noState }
+    ensures { b.new ≡ block_of no_state }
 {
     put_zeros(b);
     set_word(b, 74, 3);
@@ -161,7 +161,7 @@ fn put_none(b: &mut [u32])
 // The regions in use, the pools and the unit of a table.
 fn put_table(t: &[u32], b: &mut [u32])
     requires { (length t.now ≡ 54) × (length b.old ≡ 80) × (word t.now 1 ≤ 16) }
-    ensures { b.new ≡ tableWritten t.now b.old }
+    ensures { b.new ≡ table_written t.now b.old }
 {
     let n = word_at(t, 1);
     let unit = word_at(t, 0);
@@ -175,7 +175,7 @@ fn put_table(t: &[u32], b: &mut [u32])
 // Start-up with the table in a block: the state's block, and 17 for a table that breaks a rule or has another length. To a state block of another
 // length nothing is written.
 pub fn start_up(t: &[u32], b: &mut [u32]) -> Verdict
-    ensures { (verdictNumber result ≡ (lgStartUp t.now b.old).number) × (b.new ≡ (lgStartUp t.now b.old).state) }
+    ensures { (verdict_number result ≡ (lg_start_up t.now b.old).number) × (b.new ≡ (lg_start_up t.now b.old).state) }
 {
     if b.len() != 80 {
         return Verdict::Rejected(Refusal::BadTable);
@@ -195,16 +195,16 @@ pub fn start_up(t: &[u32], b: &mut [u32]) -> Verdict
 
 // The region that holds a range, or how it missed.
 pub fn find(b: &[u32], a: Range) -> Found
-    requires { (isBlock b.now && goodState (state_of b.now)) ≡ true }
-    ensures { result ≡ findRegion (state_of b.now).regions (state_of b.now).count a }
+    requires { (is_block b.now && good_state (state_of b.now)) ≡ true }
+    ensures { result ≡ find_region (state_of b.now).regions (state_of b.now).count a }
 {
     find_region(&b[1..49], b[0] as usize, a)
 }
 
 // Where a range that was found begins in the image. With the match in `word_index` a load takes 2 ns more.
 pub fn index(b: &[u32], a: Range, found: Found) -> WordIndex
-    requires { (isBlock b.now && goodState (state_of b.now)) ≡ true }
-    ensures { result ≡ foundIndex (state_of b.now).regions a found }
+    requires { (is_block b.now && good_state (state_of b.now)) ≡ true }
+    ensures { result ≡ found_index (state_of b.now).regions a found }
 {
     match found {
         Found::StartsOutside => WordIndex(0),

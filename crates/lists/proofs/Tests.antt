@@ -35,8 +35,8 @@ or_right true b h = absurd (true≢false h)
 or_right false b h = h
 
 -- less, or not; and three ways to compare
-pub by-lt {ℓ} : {A : Type ℓ} (x y : ℕ) → (x < y → A) → (y ≤ x → A) → A
-by-lt x y f g = elim (dec_lt x y) [ yes p ↦ f p | no p ↦ g (omega arith) ]
+pub by_lt {ℓ} : {A : Type ℓ} (x y : ℕ) → (x < y → A) → (y ≤ x → A) → A
+by_lt x y f g = elim (dec_lt x y) [ yes p ↦ f p | no p ↦ g (omega arith) ]
 
 pub by_order {ℓ} : {A : Type ℓ} (x y : ℕ) → (x < y → A) → (y < x → A) → (x ≡ y → A) → A
-by_order x y f g h = by-lt x y f (λ p. by-lt y x g (λ q. h (omega arith)))
+by_order x y f g h = by_lt x y f (λ p. by_lt y x g (λ q. h (omega arith)))

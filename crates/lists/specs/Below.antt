@@ -7,16 +7,16 @@ all_below p zero = true
 all_below p (suc n) = all_below p n && p n
 
 -- p holds of some index below n
-abbrev pub anyBelow : (ℕ → Bool) → ℕ → Bool
-anyBelow p zero = false
-anyBelow p (suc n) = anyBelow p n || p n
+abbrev pub any_below : (ℕ → Bool) → ℕ → Bool
+any_below p zero = false
+any_below p (suc n) = any_below p n || p n
 
 -- f summed over the indices below n
-abbrev pub sumBelow : (ℕ → ℕ) → ℕ → ℕ
-sumBelow f zero = 0
-sumBelow f (suc n) = sumBelow f n + f n
+abbrev pub sum_below : (ℕ → ℕ) → ℕ → ℕ
+sum_below f zero = 0
+sum_below f (suc n) = sum_below f n + f n
 
 -- the least index below n of which p holds, and n where there is none
-abbrev pub firstBelow : (ℕ → Bool) → ℕ → ℕ
-firstBelow p zero = 0
-firstBelow p (suc n) = cond (anyBelow p n) (firstBelow p n) (cond (p n) n (suc n))
+abbrev pub first_below : (ℕ → Bool) → ℕ → ℕ
+first_below p zero = 0
+first_below p (suc n) = cond (any_below p n) (first_below p n) (cond (p n) n (suc n))

@@ -1,6 +1,6 @@
 -- What the definitions of this crate say, index by index. Each is fixed here by a statement in which no other of them stands.
 use Rattle.std.specs.Prelude.{◌≡◌, ◌↔◌, Bool, true, false, List, ℕ, ◌+◌, ◌≤◌, ◌<◌, length, get_or}
-use Rattle.lists.specs.Below.{all_below, anyBelow, sumBelow, firstBelow}
+use Rattle.lists.specs.Below.{all_below, any_below, sum_below, first_below}
 use Rattle.lists.specs.Splice.{splice}
 
 -- l with v in the place of the elements from index `at` on, where they are that many
@@ -12,10 +12,10 @@ pub record Spliced (l : List ℕ) (at : ℕ) (v m : List ℕ) : Type 0 where
 
 pub record ByIndex : Type 0 where
   pub all : (p : ℕ → Bool) (n : ℕ) → (all_below p n ≡ true) ↔ ((i : ℕ) → i < n → p i ≡ true)
-  pub any : (p : ℕ → Bool) (n : ℕ) → (anyBelow p n ≡ true) ↔ ((i : ℕ) × (i < n) × (p i ≡ true))
-  pub sum-none : (f : ℕ → ℕ) → sumBelow f 0 ≡ 0
-  pub sum_more : (f : ℕ → ℕ) (n : ℕ) → sumBelow f (n + 1) ≡ sumBelow f n + f n
+  pub any : (p : ℕ → Bool) (n : ℕ) → (any_below p n ≡ true) ↔ ((i : ℕ) × (i < n) × (p i ≡ true))
+  pub sum_none : (f : ℕ → ℕ) → sum_below f 0 ≡ 0
+  pub sum_more : (f : ℕ → ℕ) (n : ℕ) → sum_below f (n + 1) ≡ sum_below f n + f n
   -- the least index of which p holds; n exactly if there is none below n
-  pub first : (p : ℕ → Bool) (n i : ℕ) → i < n → (firstBelow p n ≡ i) ↔ ((p i ≡ true) × ((j : ℕ) → j < i → p j ≡ false))
-  pub first-none : (p : ℕ → Bool) (n : ℕ) → (firstBelow p n ≡ n) ↔ ((i : ℕ) → i < n → p i ≡ false)
+  pub first : (p : ℕ → Bool) (n i : ℕ) → i < n → (first_below p n ≡ i) ↔ ((p i ≡ true) × ((j : ℕ) → j < i → p j ≡ false))
+  pub first_none : (p : ℕ → Bool) (n : ℕ) → (first_below p n ≡ n) ↔ ((i : ℕ) → i < n → p i ≡ false)
   pub spliced : (l : List ℕ) (at : ℕ) (v : List ℕ) → at + length v ≤ length l → Spliced l at v (splice l at v)

@@ -8,12 +8,12 @@ use Prim.Native.Nat.{ℕ}
 use lib.Dec.{eqb}
 use lib.ListN.{length}
 use Rattle.rules.specs.Results.{Row, row, lowest}
-use Rattle.rules.specs.Packets.{apidOf, commandApid, wellFormed, commandUnit, decode, packetLength}
-use Rattle.rules.specs.Commands.{isUnknown, wrongLength}
+use Rattle.rules.specs.Packets.{apid_of, command_apid, well_formed, command_unit, decode, packet_length}
+use Rattle.rules.specs.Commands.{is_unknown, wrong_length}
 use Rattle.rules.specs.declared.Decoded.{Decoded}
 use Rattle.rules.specs.declared.Decoded.TheVariants.{Unknown, Known}
 use Rattle.rules.specs.declared.Refusal.TheVariants.{UnknownCode, PacketLength, OtherUnit}
-use Rattle.packet.specs.Frame.{frameRows, headedOf, checkedBy}
+use Rattle.packet.specs.Frame.{frame_rows, headed_of, checked_by}
 use Rattle.rules.specs.declared.Verdict.{Verdict}
 use Rattle.rules.specs.declared.Verdict.TheVariants.{Accepted, Rejected}
 
@@ -22,29 +22,29 @@ abbrev pub or_else : Verdict → Verdict → Verdict
 or_else (Rejected r) v = Rejected r
 or_else Accepted v = v
 
-pub lowest-join : (xs ys : List Row) → lowest (xs ++ ys) ≡ or_else (lowest xs) (lowest ys)
+pub lowest_join : (xs ys : List Row) → lowest (xs ++ ys) ≡ or_else (lowest xs) (lowest ys)
 unfolding lowest
-lowest-join [] ys = refl
-lowest-join (x ∷ xs) ys = either x.applies (λ e. rw e) (λ e. rw e (lowest-join xs ys))
+lowest_join [] ys = refl
+lowest_join (x ∷ xs) ys = either x.applies (λ e. rw e) (λ e. rw e (lowest_join xs ys))
 
 -- NUMBERS 4 TO 8: those before the function code, and those that it picks
 
-abbrev pub afterCode : List ℕ → ℕ → Decoded → Verdict
-afterCode p unit Unknown = Rejected UnknownCode
-afterCode p unit (Known k) = checkedBy p unit (packetLength k)
+abbrev pub after_code : List ℕ → ℕ → Decoded → Verdict
+after_code p unit Unknown = Rejected UnknownCode
+after_code p unit (Known k) = checked_by p unit (packet_length k)
 
 module _ (p : List ℕ) (unit : ℕ) where
-  picked-lowest : (d : Decoded) → lowest (row UnknownCode (isUnknown d) ∷ row PacketLength (wrongLength p d) ∷ row OtherUnit (not (eqb (commandUnit p) unit)) ∷ []) ≡ afterCode p unit d
+  picked_lowest : (d : Decoded) → lowest (row UnknownCode (is_unknown d) ∷ row PacketLength (wrong_length p d) ∷ row OtherUnit (not (eqb (command_unit p) unit)) ∷ []) ≡ after_code p unit d
   unfolding lowest
-  picked-lowest Unknown = refl
-  picked-lowest (Known k) =
-      either (eqb (length p) (packetLength k))
-      (λ l. rw l (either (eqb (commandUnit p) unit) (λ u. rw u) (λ u. rw u)))
+  picked_lowest Unknown = refl
+  picked_lowest (Known k) =
+      either (eqb (length p) (packet_length k))
+      (λ l. rw l (either (eqb (command_unit p) unit) (λ u. rw u) (λ u. rw u)))
       (λ l. rw l)
 
-  pub frame-lowest : lowest (frameRows p unit) ≡ or_else (headedOf p) (afterCode p unit (decode p))
-  unfolding lowest frameRows headedOf
-  frame-lowest =
-      either (wellFormed p)
-      (λ w. rw w (either (eqb (apidOf p) commandApid) (λ a. rw a (picked-lowest (decode p))) (λ a. rw a)))
+  pub frame_lowest : lowest (frame_rows p unit) ≡ or_else (headed_of p) (after_code p unit (decode p))
+  unfolding lowest frame_rows headed_of
+  frame_lowest =
+      either (well_formed p)
+      (λ w. rw w (either (eqb (apid_of p) command_apid) (λ a. rw a (picked_lowest (decode p))) (λ a. rw a)))
       (λ w. rw w)

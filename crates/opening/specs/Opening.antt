@@ -1,16 +1,16 @@
 -- Numbers 1 to 9, 17 and 18 of a call, or what it is asked; and the facts that both calls ask for.
 use Rattle.std.specs.Prelude.{cond, List, ℕ, ◌+◌, leb, ltb, eqb, length, take, drop}
-use Rattle.rules.specs.Regions.{imageLength}
-use Rattle.rules.specs.States.{goodState}
+use Rattle.rules.specs.Regions.{image_length}
+use Rattle.rules.specs.States.{good_state}
 use Rattle.rules.specs.declared.Range.{Range}
 use Rattle.rules.specs.declared.Refusal.TheVariants.{BadState, ImageLength, BufferLength}
 use Rattle.rules.specs.declared.State.{State}
 use Rattle.rules.specs.declared.Verdict.{Verdict}
 use Rattle.rules.specs.declared.WordIndex.{WordIndex}
 use Rattle.rules.specs.declared.Verdict.TheVariants.{Accepted, Rejected}
-use Rattle.tasks.specs.Asked.{ifPassed, soughtIn}
+use Rattle.tasks.specs.Asked.{if_passed, sought_in}
 use Rattle.tasks.specs.declared.Sought.{Sought}
-use Rattle.regions.specs.Lookup.{findRegion, foundIndex}
+use Rattle.regions.specs.Lookup.{find_region, found_index}
 use Rattle.regions.specs.declared.Found.{Found}
 
 -- NUMBERS 1 TO 9, 17 AND 18
@@ -22,25 +22,25 @@ lent_by words image size buffer =
     (cond (eqb image words) (cond (ltb buffer size) (Rejected BufferLength) Accepted) (Rejected ImageLength))
 
 -- 1 to 9, 17 and 18, or the task
-abbrev pub openedAs : Verdict → List ℕ → List ℕ → ℕ → Sought
-openedAs v p symbols unit = ifPassed v (soughtIn p unit symbols)
+abbrev pub opened_as : Verdict → List ℕ → List ℕ → ℕ → Sought
+opened_as v p symbols unit = if_passed v (sought_in p unit symbols)
 
-abbrev pub openedBy : ℕ → ℕ → ℕ → List ℕ → List ℕ → ℕ → Sought
-openedBy words image reply p symbols unit = openedAs (lent_by words image 32 reply) p symbols unit
+abbrev pub opened_by : ℕ → ℕ → ℕ → List ℕ → List ℕ → ℕ → Sought
+opened_by words image reply p symbols unit = opened_as (lent_by words image 32 reply) p symbols unit
 
 -- THE FACTS that both calls ask for
 
 -- the words of a good state's image, which has at least one; else 0
-unfoldable pub goodWords : State → ℕ
-goodWords s = cond (goodState s) (imageLength s.regions s.count) 0
+unfoldable pub good_words : State → ℕ
+good_words s = cond (good_state s) (image_length s.regions s.count) 0
 
 abbrev pub find : State → Range → Found
-find s a = findRegion s.regions s.count a
+find s a = find_region s.regions s.count a
 
 -- where a range that is found begins in the image
 abbrev pub index : State → Range → WordIndex
-index s a = foundIndex s.regions a (find s a)
+index s a = found_index s.regions a (find s a)
 
 -- the words of the image from an index on, and none where they are not all there
-abbrev pub wordsFrom : List ℕ → ℕ → ℕ → List ℕ
-wordsFrom image at n = cond (leb (at + n) (length image)) (take n (drop at image)) (take 0 image)
+abbrev pub words_from : List ℕ → ℕ → ℕ → List ℕ
+words_from image at n = cond (leb (at + n) (length image)) (take n (drop at image)) (take 0 image)

@@ -1,7 +1,7 @@
 // Numbers 1 to 9, 17 and 18 of a call, or what it is asked: pure functions on facts, for the decisions of both calls.
 ghost use Rattle.std.specs.Prelude.{◌≡◌};
 ghost use Rattle.symbols.specs.Answers.{KnownOf};
-ghost use Rattle.opening.specs.Opening.{lent_by, openedBy};
+ghost use Rattle.opening.specs.Opening.{lent_by, opened_by};
 
 use rules::{Refusal, Verdict};
 use symbols::Known;
@@ -34,7 +34,7 @@ pub fn opened_by(
     unit: u8,
 ) -> Sought
     requires { KnownOf known symbols.now }
-    ensures { result ≡ openedBy words image reply packet.now symbols.now unit }
+    ensures { result ≡ opened_by words image reply packet.now symbols.now unit }
 {
     let lent = lent_verdict(words, image, 32, reply);
     match lent {

@@ -8,44 +8,44 @@ use native.Mathlib.Omega.{arith}
 use lib.Dec.{eqb}
 use lib.ListN.{length}
 use borrow.Author.Tests.{ne_eqb}
-use Rattle.wire.specs.Bytes.{AreBytes, beAt}
-use Rattle.wire.proofs.Numbers.{beAt-below}
-use Rattle.rules.specs.Packets.{versionOf, type_of, secondHeaderOf, sequenceFlagsOf, sequenceCountOf, lengthFieldOf, primaryRules, unit_at, transactionAt}
+use Rattle.wire.specs.Bytes.{AreBytes, be_at}
+use Rattle.wire.proofs.Numbers.{be_at_below}
+use Rattle.rules.specs.Packets.{version_of, type_of, second_header_of, sequence_flags_of, sequence_count_of, length_field_of, primary_rules, unit_at, transaction_at}
 
 -- shorter than its header, a packet has no right length field
-pub no_header : (p : List ℕ) (kind second : ℕ) → length p < 6 → false ≡ primaryRules kind second p
+pub no_header : (p : List ℕ) (kind second : ℕ) → length p < 6 → false ≡ primary_rules kind second p
 no_header p kind second h =
-    rw (ne_eqb (lengthFieldOf p + 7) (length p) (λ e. absurd (omega arith)))
-    (sym (and-false (eqb (versionOf p) 0 && eqb (type_of p) kind && eqb (secondHeaderOf p) second && eqb (sequenceFlagsOf p) 3)))
+    rw (ne_eqb (length_field_of p + 7) (length p) (λ e. absurd (omega arith)))
+    (sym (and-false (eqb (version_of p) 0 && eqb (type_of p) kind && eqb (second_header_of p) second && eqb (sequence_flags_of p) 3)))
 
 module _ (p : List ℕ) (bytes : AreBytes p) (w : ℕ) where
   -- the first word
-  module _ (e : w ≡ beAt 4 p 0) where
-    low : beAt 2 p 2 < 65536
-    low = beAt-below 2 p 2 bytes
+  module _ (e : w ≡ be_at 4 p 0) where
+    low : be_at 2 p 2 < 65536
+    low = be_at_below 2 p 2 bytes
 
-    split : w ≡ beAt 2 p 0 * 65536 + beAt 2 p 2
+    split : w ≡ be_at 2 p 0 * 65536 + be_at 2 p 2
     split = omega (arith, e)
 
-    pub version-by-word : w / 536870912 ≡ versionOf p
-    version-by-word = omega (arith, split, low)
+    pub version_by_word : w / 536870912 ≡ version_of p
+    version_by_word = omega (arith, split, low)
 
-    pub type-by-word : w / 268435456 % 2 ≡ type_of p
-    type-by-word = omega (arith, split, low)
+    pub type_by_word : w / 268435456 % 2 ≡ type_of p
+    type_by_word = omega (arith, split, low)
 
-    pub second-by-word : w / 134217728 % 2 ≡ secondHeaderOf p
-    second-by-word = omega (arith, split, low)
+    pub second_by_word : w / 134217728 % 2 ≡ second_header_of p
+    second_by_word = omega (arith, split, low)
 
-    pub flags-by-word : w / 16384 % 4 ≡ sequenceFlagsOf p
-    flags-by-word = omega (arith, split, low)
+    pub flags_by_word : w / 16384 % 4 ≡ sequence_flags_of p
+    flags_by_word = omega (arith, split, low)
 
-    pub count-by-word : w % 16384 ≡ sequenceCountOf p
-    count-by-word = omega (arith, split, low)
+    pub count_by_word : w % 16384 ≡ sequence_count_of p
+    count_by_word = omega (arith, split, low)
 
   -- the word that ends with unit and transaction
-  module _ (e : w ≡ beAt 4 p 6) where
-    pub unit-by-word : w / 4096 % 16 ≡ unit_at p 8
-    unit-by-word = omega (arith, e, beAt-below 2 p 8 bytes)
+  module _ (e : w ≡ be_at 4 p 6) where
+    pub unit_by_word : w / 4096 % 16 ≡ unit_at p 8
+    unit_by_word = omega (arith, e, be_at_below 2 p 8 bytes)
 
-    pub transaction-by-word : w % 4096 ≡ transactionAt p 8
-    transaction-by-word = omega (arith, e, beAt-below 2 p 8 bytes)
+    pub transaction_by_word : w % 4096 ≡ transaction_at p 8
+    transaction_by_word = omega (arith, e, be_at_below 2 p 8 bytes)

@@ -1,27 +1,27 @@
 -- Numbers 4 to 8 of a command packet: what a box of some unit tests of the bytes alone.
 use Rattle.std.specs.Prelude.{not, cond, List, [], ◌∷◌, ℕ, eqb, length}
-use Rattle.rules.specs.Packets.{commandApid, apidOf, wellFormed, commandUnit, decode}
+use Rattle.rules.specs.Packets.{command_apid, apid_of, well_formed, command_unit, decode}
 use Rattle.rules.specs.Results.{Row, row}
-use Rattle.rules.specs.Commands.{isUnknown, wrongLength}
+use Rattle.rules.specs.Commands.{is_unknown, wrong_length}
 use Rattle.rules.specs.declared.Refusal.TheVariants.{Malformed, OtherApid, UnknownCode, PacketLength, OtherUnit}
 use Rattle.rules.specs.declared.Verdict.{Verdict}
 use Rattle.rules.specs.declared.Verdict.TheVariants.{Accepted, Rejected}
 
-unfoldable pub frameRows : List ℕ → ℕ → List Row
-frameRows p unit =
-    row Malformed (not (wellFormed p))
-    ∷ row OtherApid (not (eqb (apidOf p) commandApid))
-    ∷ row UnknownCode (isUnknown (decode p))
-    ∷ row PacketLength (wrongLength p (decode p))
-    ∷ row OtherUnit (not (eqb (commandUnit p) unit))
+unfoldable pub frame_rows : List ℕ → ℕ → List Row
+frame_rows p unit =
+    row Malformed (not (well_formed p))
+    ∷ row OtherApid (not (eqb (apid_of p) command_apid))
+    ∷ row UnknownCode (is_unknown (decode p))
+    ∷ row PacketLength (wrong_length p (decode p))
+    ∷ row OtherUnit (not (eqb (command_unit p) unit))
     ∷ []
 
 -- THE STEPS: before the function code, and after it
 
 -- 4 and 5
-unfoldable pub headedOf : List ℕ → Verdict
-headedOf p = cond (wellFormed p) (cond (eqb (apidOf p) commandApid) Accepted (Rejected OtherApid)) (Rejected Malformed)
+unfoldable pub headed_of : List ℕ → Verdict
+headed_of p = cond (well_formed p) (cond (eqb (apid_of p) command_apid) Accepted (Rejected OtherApid)) (Rejected Malformed)
 
 -- 7 and 8 of a packet that must have n bytes
-abbrev pub checkedBy : List ℕ → ℕ → ℕ → Verdict
-checkedBy p unit n = cond (eqb (length p) n) (cond (eqb (commandUnit p) unit) Accepted (Rejected OtherUnit)) (Rejected PacketLength)
+abbrev pub checked_by : List ℕ → ℕ → ℕ → Verdict
+checked_by p unit n = cond (eqb (length p) n) (cond (eqb (command_unit p) unit) Accepted (Rejected OtherUnit)) (Rejected PacketLength)

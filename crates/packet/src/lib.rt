@@ -1,8 +1,8 @@
 // Fields of packets, and the rules on them, that more than one call needs.
 ghost use Rattle.std.specs.Prelude.{◌≡◌, ◌&&◌, ◌%◌, leb, eqb, get_or};
-ghost use Rattle.wire.specs.Bytes.{beAt};
-ghost use Rattle.rules.specs.Packets.{primaryRules, header_at, wellFormed, functionCodeOf, commandUnit, commandTransaction, requestOf, symbolRequestOf, nameFits, fieldRules, code_of, packetLength};
-ghost use Rattle.packet.specs.Frame.{headedOf, checkedBy};
+ghost use Rattle.wire.specs.Bytes.{be_at};
+ghost use Rattle.rules.specs.Packets.{primary_rules, header_at, well_formed, function_code_of, command_unit, command_transaction, request_of, symbol_request_of, name_fits, field_rules, code_of, packet_length};
+ghost use Rattle.packet.specs.Frame.{headed_of, checked_by};
 
 pub mod code;
 pub mod lengths;
@@ -12,7 +12,7 @@ use wire::{byte_at, get16, get32, read16, read32, xor_all};
 
 // Whether a packet has a primary header of this type and second-header flag, with the right version, sequence flags and length field.
 pub fn primary_rules(p: &[u8], kind: u16, second: u16) -> bool
-    ensures { result ≡ primaryRules kind second p.now }
+    ensures { result ≡ primary_rules kind second p.now }
 {
     if p.len() < 6 {
         return false;
@@ -40,7 +40,7 @@ pub fn header_at(p: &[u8], at: u16) -> Header
 // What number 4 tests in a command. The bytes are gone through only where the header is right, and the header is read without a test of
 // each byte once eight are known to be there.
 pub fn well_formed(p: &[u8]) -> bool
-    ensures { result ≡ wellFormed p.now }
+    ensures { result ≡ well_formed p.now }
 {
     if p.len() < 8 {
         return false;
@@ -53,7 +53,7 @@ pub fn well_formed(p: &[u8]) -> bool
 }
 
 pub fn name_fits(n: u8) -> bool
-    ensures { result ≡ nameFits n }
+    ensures { result ≡ name_fits n }
 {
     (1 <= n) & (n <= 48)
 }
@@ -79,7 +79,7 @@ pub fn pool_rules(i: u16) -> bool
 
 // What number 9 tests of a command's fields.
 pub fn field_rules(k: Command) -> bool
-    ensures { result ≡ fieldRules k }
+    ensures { result ≡ field_rules k }
 {
     match k {
         Command::Dump(q) => dump_rules(q.size, q.address.0),
@@ -99,7 +99,7 @@ pub fn pad_is_zero(p: &[u8]) -> bool
 }
 
 pub fn end_is_zero(p: &[u8]) -> bool
-    ensures { result ≡ eqb (beAt 2 p.now 66) 0 }
+    ensures { result ≡ eqb (be_at 2 p.now 66) 0 }
 {
     get16(p, 66) == 0
 }
@@ -119,7 +119,7 @@ pub fn code_of(k: Command) -> u8
 }
 
 pub fn packet_length(k: Command) -> usize
-    ensures { result ≡ packetLength k }
+    ensures { result ≡ packet_length k }
 {
     match k {
         Command::Dump(_) => lengths::DUMP,
@@ -135,7 +135,7 @@ pub fn packet_length(k: Command) -> usize
 
 // Numbers 4 and 5. The compiler reckons 230 of the 250 that it inlines, and takes this into its two callers, the service and the command reader.
 pub fn headed(p: &[u8]) -> Verdict
-    ensures { result ≡ headedOf p.now }
+    ensures { result ≡ headed_of p.now }
 {
     if !well_formed(p) {
         return Verdict::Rejected(Refusal::Malformed);
@@ -148,27 +148,27 @@ pub fn headed(p: &[u8]) -> Verdict
 
 // The 7-bit function code.
 pub fn function_code(p: &[u8]) -> u8
-    ensures { result ≡ functionCodeOf p.now }
+    ensures { result ≡ function_code_of p.now }
 {
     byte_at(p, 6) % 128
 }
 
 // The unit and the transaction that a command packet names.
 pub fn unit_of(p: &[u8]) -> u8
-    ensures { result ≡ commandUnit p.now }
+    ensures { result ≡ command_unit p.now }
 {
     (get16(p, 8) / 4096) as u8
 }
 
 pub fn transaction_of(p: &[u8]) -> u16
-    ensures { result ≡ commandTransaction p.now }
+    ensures { result ≡ command_transaction p.now }
 {
     get16(p, 8) % 4096
 }
 
 // Numbers 7 and 8 of a packet for this unit that must have so many bytes.
 pub fn checked(p: &[u8], unit: u8, bytes: usize) -> Verdict
-    ensures { result ≡ checkedBy p.now unit bytes }
+    ensures { result ≡ checked_by p.now unit bytes }
 {
     if p.len() != bytes {
         return Verdict::Rejected(Refusal::PacketLength);
@@ -181,7 +181,7 @@ pub fn checked(p: &[u8], unit: u8, bytes: usize) -> Verdict
 
 // The fields of a dump and of a load.
 pub fn request_in(p: &[u8]) -> Request
-    ensures { result ≡ requestOf p.now }
+    ensures { result ≡ request_of p.now }
 {
     let size = get16(p, 10);
     let address = Address(get32(p, 12));
@@ -189,7 +189,7 @@ pub fn request_in(p: &[u8]) -> Request
 }
 
 pub fn symbol_request_in(p: &[u8]) -> SymbolRequest
-    ensures { result ≡ symbolRequestOf p.now }
+    ensures { result ≡ symbol_request_of p.now }
 {
     let name = byte_at(p, 10);
     let offset = get32(p, 60);

@@ -1,6 +1,6 @@
 // The dump packet reader: 4, 5, 7, 9 or the fields, for any bytes of any length, and the data part of the caller's own packet.
 ghost use Rattle.std.specs.Prelude.{◌≡◌, ◌≤◌, length};
-ghost use Rattle.rules.specs.Ground.{packetFields, couldBeDumped, isCut, cutRules, packetRows, readPacket};
+ghost use Rattle.rules.specs.Ground.{packet_fields, could_be_dumped, is_cut, cut_rules, packet_rows, read_packet};
 ghost use Rattle.rules.specs.Results.{lowest};
 
 use packet::{header_at, primary_rules};
@@ -10,7 +10,7 @@ use wire::{read16, read32};
 // The fields after the primary header, as they stand.
 fn packet_fields(p: &[u8]) -> DumpPacket
     requires { 28 ≤ length p.now }
-    ensures { result ≡ packetFields p.now }
+    ensures { result ≡ packet_fields p.now }
 {
     let header = header_at(p, 6);
     let tick = read32(p, 8);
@@ -32,7 +32,7 @@ fn packet_fields(p: &[u8]) -> DumpPacket
 
 // Whether the requested range could be a dump.
 fn could_be_dumped(r: Range) -> bool
-    ensures { result ≡ couldBeDumped r }
+    ensures { result ≡ could_be_dumped r }
 {
     let start = r.start.0 as u64;
     let words = r.words as u64;
@@ -41,7 +41,7 @@ fn could_be_dumped(r: Range) -> bool
 
 // Whether `words` words from word `sent` on are one of the range's cuts.
 fn is_cut(r: Range, sent: u32, words: u32) -> bool
-    ensures { result ≡ isCut r sent words }
+    ensures { result ≡ is_cut r sent words }
 {
     if r.words <= sent {
         return false;
@@ -53,7 +53,7 @@ fn is_cut(r: Range, sent: u32, words: u32) -> bool
 
 // What number 9 tests in a dump packet.
 fn cut_rules(f: DumpPacket) -> bool
-    ensures { result ≡ cutRules f }
+    ensures { result ≡ cut_rules f }
 {
     let range = f.range;
     let start = range.start.0;
@@ -67,7 +67,7 @@ fn cut_rules(f: DumpPacket) -> bool
 
 // Numbers 4, 5, 7 and 9 of a dump packet.
 pub fn packet_verdict(p: &[u8]) -> Verdict
-    ensures { result ≡ lowest (packetRows p.now) }
+    ensures { result ≡ lowest (packet_rows p.now) }
 {
     if p.len() < 28 {
         return Verdict::Rejected(Refusal::Malformed);
@@ -92,7 +92,7 @@ pub fn packet_verdict(p: &[u8]) -> Verdict
 
 // The fields of a dump packet.
 pub fn read_packet(p: &[u8]) -> PacketReading
-    ensures { result ≡ (readPacket p.now).reading }
+    ensures { result ≡ (read_packet p.now).reading }
 {
     let verdict = packet_verdict(p);
     match verdict {
@@ -103,7 +103,7 @@ pub fn read_packet(p: &[u8]) -> PacketReading
 
 // The data part of a dump packet, which is part of the caller's own packet; empty where the packet is refused.
 pub fn packet_data(p: &[u8]) -> &[u8]
-    ensures { result.now ≡ (readPacket p.now).part }
+    ensures { result.now ≡ (read_packet p.now).part }
 {
     let reading = read_packet(p);
     match reading {

@@ -6,51 +6,51 @@ use mathlib.Core.List.{List}
 use Prim.Native.Nat.{ℕ, ◌≤◌, ◌<◌}
 use native.Mathlib.Omega.{arith}
 use Rattle.lists.proofs.Tests.{either, contra}
-use Rattle.rules.specs.States.{contextAt}
-use Rattle.rules.specs.Slots.{anyBusy, nextPlace}
-use Rattle.rules.proofs.Round.{any-busy-out, any-busy-in, round-stops, next-in-four}
+use Rattle.rules.specs.States.{context_at}
+use Rattle.rules.specs.Slots.{any_busy, next_place}
+use Rattle.rules.proofs.Round.{any_busy_out, any_busy_in, round_stops, next_in_four}
 use Rattle.rules.specs.declared.ActiveDump.{ActiveDump}
 use Rattle.rules.specs.declared.Context.{Context}
 use Rattle.rules.specs.declared.Context.TheVariants.{Idle, Busy}
 use Rattle.rules.specs.declared.Place.{Place}
-use Rattle.places.specs.Turns.{turn_of, nextTurn, TurnNumbers}
+use Rattle.places.specs.Turns.{turn_of, next_turn, TurnNumbers}
 use Rattle.places.specs.declared.Seat.{Seat}
 use Rattle.places.specs.declared.Turn.TheVariants.{Nobody, Next}
 
 module _ (ps : List Place) (last : ℕ) (low : last ≤ 3) where
-  all-idle : anyBusy ps ≡ false → (i : ℕ) → i < 4 → contextAt ps i ≡ Idle
-  all-idle h i l = by-context (contextAt ps i) refl
+  all_idle : any_busy ps ≡ false → (i : ℕ) → i < 4 → context_at ps i ≡ Idle
+  all_idle h i l = by_context (context_at ps i) refl
     where
-      by-context : (a : Context) → contextAt ps i ≡ a → contextAt ps i ≡ Idle
-      by-context Idle e = e
-      by-context (Busy d) e = absurd (contra (any-busy-in ps i l (λ z. let q : Idle ≡ Busy d = sym z ∙ e in let z : ◌≡◌ {A = ℕ} 0 1 = cc in omega arith)) h)
+      by_context : (a : Context) → context_at ps i ≡ a → context_at ps i ≡ Idle
+      by_context Idle e = e
+      by_context (Busy d) e = absurd (contra (any_busy_in ps i l (λ z. let q : Idle ≡ Busy d = sym z ∙ e in let z : ◌≡◌ {A = ℕ} 0 1 = cc in omega arith)) h)
 
-  nobody-next : anyBusy ps ≡ false → nextTurn ps last ≡ Nobody
-  unfolding nextTurn
-  nobody-next h = ap (turn_of (nextPlace ps last)) (all-idle h (nextPlace ps last) (next-in-four ps last))
+  nobody_next : any_busy ps ≡ false → next_turn ps last ≡ Nobody
+  unfolding next_turn
+  nobody_next h = ap (turn_of (next_place ps last)) (all_idle h (next_place ps last) (next_in_four ps last))
 
-  somebody-next : (d : ActiveDump) → contextAt ps (nextPlace ps last) ≡ Busy d → nextTurn ps last ≡ Next (record { place = nextPlace ps last; dump = d })
-  unfolding nextTurn
-  somebody-next d e = ap (turn_of (nextPlace ps last)) e
+  somebody_next : (d : ActiveDump) → context_at ps (next_place ps last) ≡ Busy d → next_turn ps last ≡ Next (record { place = next_place ps last; dump = d })
+  unfolding next_turn
+  somebody_next d e = ap (turn_of (next_place ps last)) e
 
-  same-seat : {x y : Seat} → Next x ≡ Next y → x ≡ y
-  same-seat e = cc
+  same_seat : {x y : Seat} → Next x ≡ Next y → x ≡ y
+  same_seat e = cc
 
-  not-nobody : {x : Seat} → Nobody ≡ Next x → ⊥
-  not-nobody e = let z : ◌≡◌ {A = ℕ} 0 1 = cc in omega arith
+  not_nobody : {x : Seat} → Nobody ≡ Next x → ⊥
+  not_nobody e = let z : ◌≡◌ {A = ℕ} 0 1 = cc in omega arith
 
-  pub turn-numbers : TurnNumbers ps last (nextTurn ps last)
-  turn-numbers =
-      either (anyBusy ps)
+  pub turn_numbers : TurnNumbers ps last (next_turn ps last)
+  turn_numbers =
+      either (any_busy ps)
       (λ h.
-      let r = round-stops ps last low h in
-      let busy : contextAt ps (nextPlace ps last) ≡ Busy r.dump = ap (contextAt ps) r.place ∙ r.busy in
-      let t = somebody-next r.dump busy in
+      let r = round_stops ps last low h in
+      let busy : context_at ps (next_place ps last) ≡ Busy r.dump = ap (context_at ps) r.place ∙ r.busy in
+      let t = somebody_next r.dump busy in
       rw t
       (record {
-        nobody = (λ z. absurd (omega arith), λ n. let o = any-busy-out ps h in absurd (o.2 (n o.0 o.1)));
-        next = λ x e. let s = same-seat e in (r.k, r.near, rw (← s) r.place, rw (← s) busy, r.passed);
+        nobody = (λ z. absurd (omega arith), λ n. let o = any_busy_out ps h in absurd (o.2 (n o.0 o.1)));
+        next = λ x e. let s = same_seat e in (r.k, r.near, rw (← s) r.place, rw (← s) busy, r.passed);
       }))
       (λ h.
-      rw (nobody-next h)
-      (record { nobody = (λ z. all-idle h, λ n. refl); next = λ x e. absurd (not-nobody e) }))
+      rw (nobody_next h)
+      (record { nobody = (λ z. all_idle h, λ n. refl); next = λ x e. absurd (not_nobody e) }))

@@ -1,9 +1,9 @@
 // Dump places: what one does, and the four of a State. The four of a block of words are in lent_places.
 ghost use Rattle.std.specs.Prelude.{◌≡◌, List, ℕ, ◌≤◌, length};
-ghost use Rattle.rules.specs.States.{contextAt, busyWith};
-ghost use Rattle.rules.specs.Commands.{isIdle, firstIdle, setContext};
-ghost use Rattle.rules.specs.Slots.{nextPlace, afterPacket};
-ghost use Rattle.places.specs.Turns.{turn_of, nextTurn, firstWithin, dumpFields, TurnNumbers};
+ghost use Rattle.rules.specs.States.{context_at, busy_with};
+ghost use Rattle.rules.specs.Commands.{is_idle, first_idle, set_context};
+ghost use Rattle.rules.specs.Slots.{next_place, after_packet};
+ghost use Rattle.places.specs.Turns.{turn_of, next_turn, first_within, dump_fields, TurnNumbers};
 ghost use Rattle.rules.specs.declared.Place.{Place};
 
 use rules::{ActiveDump, Context, Place};
@@ -26,7 +26,7 @@ pub enum Turn {
 
 // Whether a place is busy with transaction t.
 pub fn busy_with(t: u16, a: Context) -> bool
-    ensures { result ≡ busyWith t a }
+    ensures { result ≡ busy_with t a }
 {
     match a {
         Context::Idle => false,
@@ -35,7 +35,7 @@ pub fn busy_with(t: u16, a: Context) -> bool
 }
 
 pub fn is_idle(a: Context) -> bool
-    ensures { result ≡ isIdle a }
+    ensures { result ≡ is_idle a }
 {
     match a {
         Context::Idle => true,
@@ -54,7 +54,7 @@ pub fn turn_of(place: usize, a: Context) -> Turn
 
 // The rules of a busy dump, but for its region.
 pub fn dump_fields(d: ActiveDump) -> bool
-    ensures { result ≡ dumpFields d }
+    ensures { result ≡ dump_fields d }
 {
     let words = d.range.words;
     (d.transaction <= 4095)
@@ -67,7 +67,7 @@ pub fn dump_fields(d: ActiveDump) -> bool
 
 // What the place of a dump does after its next packet: after the last it is freed.
 pub fn after_packet(d: ActiveDump) -> Context
-    ensures { result ≡ afterPacket d }
+    ensures { result ≡ after_packet d }
 {
     let sent = d.sent as u64 + 1016;
     let range = d.range;
@@ -91,7 +91,7 @@ fn four_places(ps: [Place; 4])
 
 // What place i does; there is nothing past the last.
 pub fn context_at(ps: [Place; 4], i: usize) -> Context
-    ensures { result ≡ contextAt ps i }
+    ensures { result ≡ context_at ps i }
 {
     four_places(ps);
     if i < 4 {
@@ -104,7 +104,7 @@ pub fn context_at(ps: [Place; 4], i: usize) -> Context
 
 // The lowest of the first k places that is busy with transaction t, and k where there is none.
 pub fn first_with(ps: [Place; 4], t: u16, k: usize) -> usize
-    ensures { result ≡ firstWithin ps t k }
+    ensures { result ≡ first_within ps t k }
 {
     let mut i: usize = 0;
     while i < k {
@@ -118,7 +118,7 @@ pub fn first_with(ps: [Place; 4], t: u16, k: usize) -> usize
 
 // The lowest-numbered idle place, and 4 where there is none.
 pub fn first_idle(ps: [Place; 4]) -> usize
-    ensures { result ≡ firstIdle ps }
+    ensures { result ≡ first_idle ps }
 {
     let mut i: usize = 0;
     while i < 4 {
@@ -132,7 +132,7 @@ pub fn first_idle(ps: [Place; 4]) -> usize
 
 // Whose turn it is: the busy place that comes next after the one served last, place 0 again after place 3.
 fn next_place(ps: [Place; 4], last: u8) -> usize
-    ensures { result ≡ nextPlace ps last }
+    ensures { result ≡ next_place ps last }
 {
     let from = last as usize + 1;
     let mut k: usize = 0;
@@ -148,7 +148,7 @@ fn next_place(ps: [Place; 4], last: u8) -> usize
 
 // Whose packet is next.
 pub fn next_turn(ps: [Place; 4], last: u8) -> Turn
-    ensures { result ≡ nextTurn ps last }
+    ensures { result ≡ next_turn ps last }
 {
     let at = next_place(ps, last);
     turn_of(at, context_at(ps, at))
@@ -156,7 +156,7 @@ pub fn next_turn(ps: [Place; 4], last: u8) -> Turn
 
 // The places with what place i does changed.
 pub fn set_context(ps: [Place; 4], i: usize, a: Context) -> [Place; 4]
-    ensures { result ≡ setContext ps i a }
+    ensures { result ≡ set_context ps i a }
 {
     four_places(ps);
     let mut qs = ps;
@@ -168,5 +168,5 @@ pub fn set_context(ps: [Place; 4], i: usize, a: Context) -> [Place; 4]
 
 // The number of whose turn it is, exactly in its case. This function does nothing: its contract is what is proved.
 pub fn numbers_of_turns()
-    ensures { (ps : List Place) (last : ℕ) → last ≤ 3 → TurnNumbers ps last (nextTurn ps last) }
+    ensures { (ps : List Place) (last : ℕ) → last ≤ 3 → TurnNumbers ps last (next_turn ps last) }
 {}

@@ -9,12 +9,12 @@ use lib.ListN.{length, drop, get_or, length-drop, drop_of_length-le}
 use lib.Seq.{drop-cons, drop-drop}
 use borrow.Author.Tests.{ne_eqb}
 use Rattle.lists.proofs.Tests.{either}
-use Rattle.rules.specs.Pools.{Block, block_of, Walk, damaged, whole, after, blocks_from, isFree, largest}
+use Rattle.rules.specs.Pools.{Block, block_of, Walk, damaged, whole, after, blocks_from, is_free, largest}
 use Rattle.pool.specs.declared.Figures.{Figures}
 use Rattle.pool.specs.declared.Tally.{Tally}
 use Rattle.pool.specs.declared.Walked.{Walked}
 use Rattle.pool.specs.declared.Walked.TheVariants.{Damaged, Whole}
-use Rattle.pool.specs.Answers.{figuresOf, walkedOf, tallied}
+use Rattle.pool.specs.Answers.{figures_of, walked_of, tallied}
 
 -- FIGURES
 
@@ -31,72 +31,72 @@ together f g =
 
 -- the figures with one more block
 abbrev pub counted : Figures → Block → Figures
-counted f b = together f (figuresOf (b ∷ []))
+counted f b = together f (figures_of (b ∷ []))
 
-same-figures : {f g : Figures}
+same_figures : {f g : Figures}
     → (f.free ≡ g.free) × (f.freeblocks ≡ g.freeblocks) × (f.usable ≡ g.usable) × (f.used ≡ g.used) × (f.usedblocks ≡ g.usedblocks) → f ≡ g
-same-figures e = λ i. record { free = e.0 i; freeblocks = e.1 i; usable = e.2 i; used = e.3 i; usedblocks = e.4 i }
+same_figures e = λ i. record { free = e.0 i; freeblocks = e.1 i; usable = e.2 i; used = e.3 i; usedblocks = e.4 i }
 
-pub same-tally : {t u : Tally} → (t.free ≡ u.free) × (t.freeblocks ≡ u.freeblocks) × (t.largest ≡ u.largest) × (t.blocks ≡ u.blocks) → t ≡ u
-same-tally e = λ i. record { free = e.0 i; freeblocks = e.1 i; largest = e.2 i; blocks = e.3 i }
+pub same_tally : {t u : Tally} → (t.free ≡ u.free) × (t.freeblocks ≡ u.freeblocks) × (t.largest ≡ u.largest) × (t.blocks ≡ u.blocks) → t ≡ u
+same_tally e = λ i. record { free = e.0 i; freeblocks = e.1 i; largest = e.2 i; blocks = e.3 i }
 
 -- one is taken off the larger of two, or off each
-each-less : (k l : ℕ) → max k l - 1 ≡ max (k - 1) (l - 1)
-each-less k l = omega arith
+each_less : (k l : ℕ) → max k l - 1 ≡ max (k - 1) (l - 1)
+each_less k l = omega arith
 
-larger-of-three : (k l m : ℕ) → max k (max l m) ≡ max (max k l) m
-larger-of-three k l m = omega arith
+larger_of_three : (k l m : ℕ) → max k (max l m) ≡ max (max k l) m
+larger_of_three k l m = omega arith
 
 -- one more block is counted first, or with the others
-counted-first : (f : Figures) (b : Block) (bs : List Block) → together f (figuresOf (b ∷ bs)) ≡ together (counted f b) (figuresOf bs)
+counted_first : (f : Figures) (b : Block) (bs : List Block) → together f (figures_of (b ∷ bs)) ≡ together (counted f b) (figures_of bs)
 unfolding together
-counted-first f b bs =
-    let first = largest isFree (b ∷ []) in
-    let rest = largest isFree bs in
-    let e : largest isFree (b ∷ bs) ≡ max first rest = omega arith in
-    let third : max f.usable (largest isFree (b ∷ bs) - 1) ≡ max (max f.usable (first - 1)) (rest - 1) =
-    rw (e, each-less first rest) (larger-of-three f.usable (first - 1) (rest - 1)) in
-    same-figures (omega arith, omega arith, third, omega arith, omega arith)
+counted_first f b bs =
+    let first = largest is_free (b ∷ []) in
+    let rest = largest is_free bs in
+    let e : largest is_free (b ∷ bs) ≡ max first rest = omega arith in
+    let third : max f.usable (largest is_free (b ∷ bs) - 1) ≡ max (max f.usable (first - 1)) (rest - 1) =
+    rw (e, each_less first rest) (larger_of_three f.usable (first - 1) (rest - 1)) in
+    same_figures (omega arith, omega arith, third, omega arith, omega arith)
 
-none-together : (f : Figures) → together (figuresOf []) f ≡ f
+none_together : (f : Figures) → together (figures_of []) f ≡ f
 unfolding together
-none-together f = same-figures (omega arith)
+none_together f = same_figures (omega arith)
 
-together-none : (f : Figures) → together f (figuresOf []) ≡ f
+together_none : (f : Figures) → together f (figures_of []) ≡ f
 unfolding together
-together-none f = same-figures (omega arith)
+together_none f = same_figures (omega arith)
 
 -- the figures that a tally tells once `at` words are passed: what is not free is used
 abbrev pub told : Tally → ℕ → Figures
 told t at = record { free = t.free; freeblocks = t.freeblocks; usable = t.largest - 1; used = at - t.free; usedblocks = t.blocks - t.freeblocks }
 
 module _ (t : Tally) (b : Block) (at : ℕ) (words : t.free ≤ at) (blocks : t.freeblocks ≤ t.blocks) where
-  pub told-next : told (tallied t b) (at + b.size) ≡ counted (told t at) b
+  pub told_next : told (tallied t b) (at + b.size) ≡ counted (told t at) b
   unfolding together tallied
-  told-next = same-figures (either b.used (λ e. rw e (omega arith)) (λ e. rw e (omega arith)))
+  told_next = same_figures (either b.used (λ e. rw e (omega arith)) (λ e. rw e (omega arith)))
 
-  pub tallied-words : (tallied t b).free ≤ at + b.size
+  pub tallied_words : (tallied t b).free ≤ at + b.size
   unfolding tallied
-  tallied-words = either b.used (λ e. rw e (omega arith)) (λ e. rw e (omega arith))
+  tallied_words = either b.used (λ e. rw e (omega arith)) (λ e. rw e (omega arith))
 
-  pub tallied-blocks : ((tallied t b).freeblocks ≤ (tallied t b).blocks) × ((tallied t b).blocks ≡ t.blocks + 1)
+  pub tallied_blocks : ((tallied t b).freeblocks ≤ (tallied t b).blocks) × ((tallied t b).blocks ≡ t.blocks + 1)
   unfolding tallied
-  tallied-blocks = either b.used (λ e. rw e (omega arith)) (λ e. rw e (omega arith))
+  tallied_blocks = either b.used (λ e. rw e (omega arith)) (λ e. rw e (omega arith))
 
 -- THE FIGURES SO FAR AND A WALK
 
 abbrev pub joined : Figures → Walk → Walked
 joined f damaged = Damaged
-joined f (whole bs) = Whole (together f (figuresOf bs))
+joined f (whole bs) = Whole (together f (figures_of bs))
 
 -- nothing so far: the walk is left
-pub joined-start : (x : Walk) → joined (figuresOf []) x ≡ walkedOf x
-joined-start damaged = refl
-joined-start (whole bs) = ap Whole (none-together (figuresOf bs))
+pub joined_start : (x : Walk) → joined (figures_of []) x ≡ walked_of x
+joined_start damaged = refl
+joined_start (whole bs) = ap Whole (none_together (figures_of bs))
 
-joined-after : (f : Figures) (b : Block) (x : Walk) → joined f (after b x) ≡ joined (counted f b) x
-joined-after f b damaged = refl
-joined-after f b (whole bs) = ap Whole (counted-first f b bs)
+joined_after : (f : Figures) (b : Block) (x : Walk) → joined f (after b x) ≡ joined (counted f b) x
+joined_after f b damaged = refl
+joined_after f b (whole bs) = ap Whole (counted_first f b bs)
 
 -- THE WORDS OF A BLOCK
 
@@ -108,26 +108,26 @@ pass (suc n) [] h = absurd (omega arith)
 pass (suc n) (x ∷ l) h = pass n l (omega arith)
 
 -- a block that runs past the end
-past_end : (n : ℕ) (l : List ℕ) → length l < n → blocks_from n l ≡ damaged
+past_end_lem : (n : ℕ) (l : List ℕ) → length l < n → blocks_from n l ≡ damaged
 unfolding blocks_from
-past_end zero l h = absurd (omega arith)
-past_end (suc n) [] h = refl
-past_end (suc n) (x ∷ l) h = past_end n l (omega arith)
+past_end_lem zero l h = absurd (omega arith)
+past_end_lem (suc n) [] h = refl
+past_end_lem (suc n) (x ∷ l) h = past_end_lem n l (omega arith)
 
 module _ (f : Figures) (l : List ℕ) (at : ℕ) where
   -- nothing is left: the figures are the walk's
   pub joined_end : length l ≤ at → joined f (blocks_from 0 (drop at l)) ≡ Whole f
   unfolding blocks_from
-  joined_end h = rw (drop_of_length-le l h) (ap Whole (together-none f))
+  joined_end h = rw (drop_of_length-le l h) (ap Whole (together_none f))
 
   module _ (here : at < length l) where
     abbrev first : Block
     first = block_of (get_or l at 0)
 
     -- the first word of a block of size 0
-    pub joined-zero : first.size ≡ 0 → joined f (blocks_from 0 (drop at l)) ≡ Damaged
+    pub joined_zero : first.size ≡ 0 → joined f (blocks_from 0 (drop at l)) ≡ Damaged
     unfolding blocks_from
-    joined-zero e = rw (drop-cons l at 0 here, e)
+    joined_zero e = rw (drop-cons l at 0 here, e)
 
     module _ (some : first.size ≢ 0) where
       opened : blocks_from 0 (drop at l) ≡ after first (blocks_from (first.size - 1) (drop (suc at) l))
@@ -135,15 +135,15 @@ module _ (f : Figures) (l : List ℕ) (at : ℕ) where
       opened = rw (drop-cons l at 0 here, ne_eqb first.size 0 some)
 
       -- a block that does not fit
-      pub joined-out : length l - at < first.size → joined f (blocks_from 0 (drop at l)) ≡ Damaged
-      joined-out h =
+      pub joined_out : length l - at < first.size → joined f (blocks_from 0 (drop at l)) ≡ Damaged
+      joined_out h =
           let k : length (drop (suc at) l) < first.size - 1 = simp length-drop (omega arith) in
-          rw (opened, past_end (first.size - 1) (drop (suc at) l) k)
+          rw (opened, past_end_lem (first.size - 1) (drop (suc at) l) k)
 
       -- a block that fits
-      pub joined-next : first.size ≤ length l - at → joined f (blocks_from 0 (drop at l)) ≡ joined (counted f first) (blocks_from 0 (drop (at + first.size) l))
-      joined-next h =
+      pub joined_next : first.size ≤ length l - at → joined f (blocks_from 0 (drop at l)) ≡ joined (counted f first) (blocks_from 0 (drop (at + first.size) l))
+      joined_next h =
           let n : ℕ = first.size - 1 in
           let k : n ≤ length (drop (suc at) l) = simp length-drop (omega arith) in
           let e : suc at + n ≡ at + first.size = omega arith in
-          rw (opened, pass n (drop (suc at) l) k, drop-drop, e) (joined-after f first (blocks_from 0 (drop (at + first.size) l)))
+          rw (opened, pass n (drop (suc at) l) k, drop-drop, e) (joined_after f first (blocks_from 0 (drop (at + first.size) l)))

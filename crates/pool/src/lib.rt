@@ -2,8 +2,8 @@
 ghost use Rattle.std.specs.Prelude.{◌≡◌, cond, List, ℕ, ◌+◌, ◌-◌, ◌%◌, ◌≤◌, ◌<◌, length};
 ghost use Rattle.lists.specs.Splice.{splice};
 ghost use Rattle.wire.specs.Bytes.{word_bytes};
-ghost use Rattle.rules.specs.Pools.{block_of, blocksOf};
-ghost use Rattle.pool.specs.Answers.{tallied, walkedOf, figureBytes, WalkedNumbers};
+ghost use Rattle.rules.specs.Pools.{block_of, blocks_of};
+ghost use Rattle.pool.specs.Answers.{tallied, walked_of, figure_bytes, WalkedNumbers};
 
 use wire::put_words;
 
@@ -72,7 +72,7 @@ fn usable_words(largest: usize) -> usize
 
 // The figures of a pool's blocks, from the first word of each.
 pub fn walk_pool(pool: &[u32]) -> Walked
-    ensures { result ≡ walkedOf (blocksOf pool.now) }
+    ensures { result ≡ walked_of (blocks_of pool.now) }
 {
     let mut t = Tally {
         free: 0,
@@ -105,7 +105,7 @@ pub fn walk_pool(pool: &[u32]) -> Walked
 
 // The reply as eight words, each number cut to its field.
 fn reply_words(count: u16, unit: u8, transaction: u16, pool: u16, f: Figures) -> [u32; 8]
-    ensures { word_bytes result ≡ figureBytes (count % 16384) (unit % 16) (transaction % 4096) pool f }
+    ensures { word_bytes result ≡ figure_bytes (count % 16384) (unit % 16) (transaction % 4096) pool f }
 {
     let sequence = 49152 + (count % 16384) as u32;
     let identity = 4096 * (unit % 16) as u32 + (transaction % 4096) as u32;
@@ -123,7 +123,7 @@ fn reply_words(count: u16, unit: u8, transaction: u16, pool: u16, f: Figures) ->
 
 // The reply at the start of the buffer, each number cut to its field. Where it does not fit, nothing is written.
 pub fn put_reply(reply: &mut [u8], count: u16, unit: u8, transaction: u16, pool: u16, f: Figures)
-    ensures { (32 ≤ length reply.old → reply.new ≡ splice reply.old 0 (figureBytes (count % 16384) (unit % 16) (transaction % 4096) pool f))
+    ensures { (32 ≤ length reply.old → reply.new ≡ splice reply.old 0 (figure_bytes (count % 16384) (unit % 16) (transaction % 4096) pool f))
         × (length reply.old < 32 → reply.new ≡ reply.old) }
 {
     let words = reply_words(count, unit, transaction, pool, f);
@@ -132,5 +132,5 @@ pub fn put_reply(reply: &mut [u8], count: u16, unit: u8, transaction: u16, pool:
 
 // The number of a pool's walk, exactly in its case. This function does nothing: its contract is what is proved.
 pub fn numbers_of_walks()
-    ensures { (ws : List ℕ) → WalkedNumbers ws (walkedOf (blocksOf ws)) }
+    ensures { (ws : List ℕ) → WalkedNumbers ws (walked_of (blocks_of ws)) }
 {}

@@ -8,37 +8,37 @@ use native.Mathlib.Omega.{arith}
 use lib.Dec.{leb, ltb}
 use lib.ListN.{length, get_or}
 use borrow.Author.Tests.{ltb-true, ltb-false, le-leb, lt-leb, lt-ltb, le-ltb}
-use Rattle.lists.proofs.Tests.{either, contra, by-lt, by_order}
-use Rattle.lists.proofs.Below.{first-is, first-none, first_found, none_of}
-use Rattle.rules.specs.Regions.{end_of, within, regionAt, rangeAt, tableRules, anyRight, holds, inOneRegion, first_of, regionOf}
+use Rattle.lists.proofs.Tests.{either, contra, by_lt, by_order}
+use Rattle.lists.proofs.Below.{first_is, first_none, first_found, none_of}
+use Rattle.rules.specs.Regions.{end_of, within, region_at, range_at, table_rules, any_right, holds, in_one_region, first_of, region_of}
 use Rattle.rules.specs.GoodWhen.{LiesIn}
-use Rattle.rules.proofs.Table.{table-count, ordered, holds-in, holds-out}
+use Rattle.rules.proofs.Table.{table_count, ordered, holds_in, holds_out}
 use Rattle.rules.specs.declared.Range.{Range}
 use Rattle.rules.specs.declared.Region.{Region}
-use Rattle.regions.specs.Halving.{middle, nextFirst, oneLeft, comparisons, isShort, candidate, regionByHalving, compared, AtMostFive, NumberSettled, findByHalving, RightInOrder}
-use Rattle.regions.specs.Lookup.{foundNumber, foundIn, findRegion}
+use Rattle.regions.specs.Halving.{middle, next_first, one_left, comparisons, is_short, candidate, region_by_halving, compared, AtMostFive, NumberSettled, find_by_halving, RightInOrder}
+use Rattle.regions.specs.Lookup.{found_number, found_in, find_region}
 
 -- ONE ROUND
 
 module _ (short : ℕ → Bool) (first left : ℕ) where
-  pub left_end : (k : ℕ) → left ≤ 1 → oneLeft short k first left ≡ first
-  unfolding oneLeft
+  pub left_end : (k : ℕ) → left ≤ 1 → one_left short k first left ≡ first
+  unfolding one_left
   left_end zero l = refl
   left_end (suc k) l = rw (le-leb left 1 l)
 
-  pub left-round : (k : ℕ) → 1 < left → oneLeft short (suc k) first left ≡ oneLeft short k (nextFirst short first left) (left - left / 2)
-  unfolding oneLeft
-  left-round k l = rw (lt-leb left 1 l)
+  pub left_round : (k : ℕ) → 1 < left → one_left short (suc k) first left ≡ one_left short k (next_first short first left) (left - left / 2)
+  unfolding one_left
+  left_round k l = rw (lt-leb left 1 l)
 
-  pub compared-end : (k : ℕ) → left ≤ 1 → length (comparisons short k first left) ≡ 1
+  pub compared_end : (k : ℕ) → left ≤ 1 → length (comparisons short k first left) ≡ 1
   unfolding comparisons
-  compared-end zero l = refl
-  compared-end (suc k) l = rw (le-leb left 1 l)
+  compared_end zero l = refl
+  compared_end (suc k) l = rw (le-leb left 1 l)
 
-  pub compared-round : (k : ℕ) → 1 < left
-      → length (comparisons short (suc k) first left) ≡ suc (length (comparisons short k (nextFirst short first left) (left - left / 2)))
+  pub compared_round : (k : ℕ) → 1 < left
+      → length (comparisons short (suc k) first left) ≡ suc (length (comparisons short k (next_first short first left) (left - left / 2)))
   unfolding comparisons
-  compared-round k l = rw (lt-leb left 1 l)
+  compared_round k l = rw (lt-leb left 1 l)
 
 -- IN ORDER
 
@@ -65,13 +65,13 @@ module _ (short : ℕ → Bool) (n : ℕ) (down : (i j : ℕ) → i ≤ j → j 
       }
 
   narrowed : (k first left : ℕ) → 1 ≤ left → left ≤ reach k → first + left ≤ n → ((i : ℕ) → i < first → short i ≡ true)
-      → ((j : ℕ) → first + left ≤ j → j < n → short (first + left - 1) ≡ false) → Narrowed short n (oneLeft short k first left)
+      → ((j : ℕ) → first + left ≤ j → j < n → short (first + left - 1) ≡ false) → Narrowed short n (one_left short k first left)
   narrowed zero first left some most fits before past =
       let e : left ≤ 1 = most in rw (left_end short first left zero e) (stopped first left (omega arith) fits before past)
   narrowed (suc k) first left some most fits before past =
-      by-lt 1 left
+      by_lt 1 left
       (λ l.
-      rw (left-round short first left k l)
+      rw (left_round short first left k l)
       (either (short (middle first left))
       (λ e.
       let z : first + left / 2 + (left - left / 2) ≡ first + left = omega arith in
@@ -88,56 +88,56 @@ module _ (short : ℕ → Bool) (n : ℕ) (down : (i j : ℕ) → i ≤ j → j 
       (λ t. t))))))
       (λ l. rw (left_end short first left (suc k) l) (stopped first left (omega arith) fits before past))
 
-module _ (rs : List Region) (n : ℕ) (rules : tableRules rs n ≡ true) (a : Range) where
-  short-down : (i j : ℕ) → i ≤ j → j < n → isShort rs a j ≡ true → isShort rs a i ≡ true
-  short-down i j l q h =
+module _ (rs : List Region) (n : ℕ) (rules : table_rules rs n ≡ true) (a : Range) where
+  short_down : (i j : ℕ) → i ≤ j → j < n → is_short rs a j ≡ true → is_short rs a i ≡ true
+  short_down i j l q h =
       by_order i j
-      (λ k. let o = ordered rs n rules j q i k in let s = ltb-true (end_of (rangeAt rs j)) (end_of a) h in lt-ltb (end_of (rangeAt rs i)) (end_of a) (omega arith))
+      (λ k. let o = ordered rs n rules j q i k in let s = ltb-true (end_of (range_at rs j)) (end_of a) h in lt-ltb (end_of (range_at rs i)) (end_of a) (omega arith))
       (λ k. absurd (omega arith))
       (λ (e : i ≡ j). rw e h)
 
-  left-narrowed : Narrowed (isShort rs a) n (candidate rs n a)
+  left_narrowed : Narrowed (is_short rs a) n (candidate rs n a)
   unfolding candidate
-  left-narrowed =
-      let c = table-count rs n rules in
-      narrowed (isShort rs a) n short-down _ 0 n c.0 c.1 (omega arith) (λ i l. absurd (omega arith)) (λ j l q. absurd (omega arith))
+  left_narrowed =
+      let c = table_count rs n rules in
+      narrowed (is_short rs a) n short_down _ 0 n c.0 c.1 (omega arith) (λ i l. absurd (omega arith)) (λ j l q. absurd (omega arith))
 
-  not-held : (i : ℕ) → i < n → (LiesIn anyRight rs n a i → ⊥) → holds anyRight rs a i ≡ false
-  not-held i l f = either (holds anyRight rs a i) (λ h. absurd (f (holds-out anyRight rs n a i l h))) (λ h. h)
+  not_held : (i : ℕ) → i < n → (LiesIn any_right rs n a i → ⊥) → holds any_right rs a i ≡ false
+  not_held i l f = either (holds any_right rs a i) (λ h. absurd (f (holds_out any_right rs n a i l h))) (λ h. h)
 
   -- THE LAW: in a table by the rules the search by halving finds the region that holds the range whole, or that none does
-  in_order : regionByHalving rs n a ≡ regionOf rs n a
-  unfolding regionByHalving regionOf
-  in_order =
+  in_order_lem : region_by_halving rs n a ≡ region_of rs n a
+  unfolding region_by_halving region_of
+  in_order_lem =
       let r = candidate rs n a in
-      let d = left-narrowed in
-      let before : (i : ℕ) → i < r → holds anyRight rs a i ≡ false =
-      λ i l. not-held i (omega (arith, d.in_use)) (λ (h : LiesIn anyRight rs n a i). let s = ltb-true (end_of (rangeAt rs i)) (end_of a) (d.before i l) in let t = h.to in absurd (omega arith))
+      let d = left_narrowed in
+      let before : (i : ℕ) → i < r → holds any_right rs a i ≡ false =
+      λ i l. not_held i (omega (arith, d.in_use)) (λ (h : LiesIn any_right rs n a i). let s = ltb-true (end_of (range_at rs i)) (end_of a) (d.before i l) in let t = h.to in absurd (omega arith))
       in
-      either (holds anyRight rs a r)
-      (λ h. rw h (sym (first-is (holds anyRight rs a) n d.in_use h before)))
-      (λ h. rw h (sym (first-none (holds anyRight rs a) n (none_of (holds anyRight rs a) n (λ i l. by_order i r (before i)
-      (λ q. not-held i l (λ (o : LiesIn anyRight rs n a i). past i l q h (ltb-false (end_of (rangeAt rs r)) (end_of a) (d.itself i q l)) o)) (λ (e : i ≡ r). rw e h))))))
+      either (holds any_right rs a r)
+      (λ h. rw h (sym (first_is (holds any_right rs a) n d.in_use h before)))
+      (λ h. rw h (sym (first_none (holds any_right rs a) n (none_of (holds any_right rs a) n (λ i l. by_order i r (before i)
+      (λ q. not_held i l (λ (o : LiesIn any_right rs n a i). past i l q h (ltb-false (end_of (range_at rs r)) (end_of a) (d.itself i q l)) o)) (λ (e : i ≡ r). rw e h))))))
     where
-      past : (i : ℕ) → i < n → candidate rs n a < i → holds anyRight rs a (candidate rs n a) ≡ false
-          → end_of a ≤ end_of (rangeAt rs (candidate rs n a)) → LiesIn anyRight rs n a i → ⊥
+      past : (i : ℕ) → i < n → candidate rs n a < i → holds any_right rs a (candidate rs n a) ≡ false
+          → end_of a ≤ end_of (range_at rs (candidate rs n a)) → LiesIn any_right rs n a i → ⊥
       past i l q h t o =
           let r = candidate rs n a in
           let e = ordered rs n rules i l r q in
           let f = o.from in
-          contra (holds-in anyRight rs n a r (record { in_use = omega arith; from = omega arith; to = t; allowed = refl })) h
+          contra (holds_in any_right rs n a r (record { in_use = omega arith; from = omega arith; to = t; allowed = refl })) h
 
-pub found_right : (rs : List Region) (n : ℕ) → tableRules rs n ≡ true → (a : Range) → findByHalving rs n a ≡ findRegion rs n a
-unfolding findByHalving findRegion inOneRegion regionOf
+pub found_right : (rs : List Region) (n : ℕ) → table_rules rs n ≡ true → (a : Range) → find_by_halving rs n a ≡ find_region rs n a
+unfolding find_by_halving find_region in_one_region region_of
 found_right rs n rules a =
     let first : Range = first_of a in
-    rw (in_order rs n rules first)
-    (either (inOneRegion anyRight rs n first)
-    (λ h. let r = first_found (holds anyRight rs first) n h in rw (h, lt-ltb (regionOf rs n first) n r.0))
-    (λ h. rw (h, first-none (holds anyRight rs first) n h, le-ltb n n (omega arith))))
+    rw (in_order_lem rs n rules first)
+    (either (in_one_region any_right rs n first)
+    (λ h. let r = first_found (holds any_right rs first) n h in rw (h, lt-ltb (region_of rs n first) n r.0))
+    (λ h. rw (h, first_none (holds any_right rs first) n h, le-ltb n n (omega arith))))
 
-pub right-in-order : RightInOrder
-right-in-order rs n a rules = (in_order rs n rules a, found_right rs n rules a)
+pub right_in_order : RightInOrder
+right_in_order rs n a rules = (in_order_lem rs n rules a, found_right rs n rules a)
 
 -- AT MOST FIVE
 
@@ -152,21 +152,21 @@ module _ (short : ℕ → Bool) where
   few (suc k) first left =
       either (leb left 1)
       (λ l. rw l (omega arith))
-      (λ l. let i = few k (nextFirst short first left) (left - left / 2) in rw l (omega arith))
+      (λ l. let i = few k (next_first short first left) (left - left / 2) in rw l (omega arith))
 
   -- the region that is left is compared
   last_one : (k first left : ℕ)
-      → (j : ℕ) × (j < length (comparisons short k first left)) × (get_or (comparisons short k first left) j 0 ≡ oneLeft short k first left)
-  unfolding comparisons oneLeft
+      → (j : ℕ) × (j < length (comparisons short k first left)) × (get_or (comparisons short k first left) j 0 ≡ one_left short k first left)
+  unfolding comparisons one_left
   last_one zero first left = (0, omega arith, refl)
   last_one (suc k) first left =
       either (leb left 1)
       (λ l. rw l (0, omega arith, refl))
-      (λ l. let i = last_one k (nextFirst short first left) (left - left / 2) in rw l (suc i.0, omega (arith, i.1), i.2))
+      (λ l. let i = last_one k (next_first short first left) (left - left / 2) in rw l (suc i.0, omega (arith, i.1), i.2))
 
   -- another test that agrees on those leaves the same
-  alike : (other : ℕ → Bool) (k first left : ℕ) → Agree other short (comparisons short k first left) → oneLeft other k first left ≡ oneLeft short k first left
-  unfolding comparisons oneLeft
+  alike : (other : ℕ → Bool) (k first left : ℕ) → Agree other short (comparisons short k first left) → one_left other k first left ≡ one_left short k first left
+  unfolding comparisons one_left
   alike other zero first left h = refl
   alike other (suc k) first left h =
       either (leb left 1)
@@ -174,42 +174,42 @@ module _ (short : ℕ → Bool) where
       (λ l.
       let g = rw l at h in
       let m : other (middle first left) ≡ short (middle first left) = g 0 (omega arith) in
-      let i = alike other k (nextFirst short first left) (left - left / 2) (λ j q. g (suc j) (omega (arith, q))) in
+      let i = alike other k (next_first short first left) (left - left / 2) (λ j q. g (suc j) (omega (arith, q))) in
       rw (l, m) i)
 
-pub at-most-five : (rs : List Region) (n : ℕ) (a : Range) → AtMostFive rs n a
-unfolding compared regionByHalving candidate
-at-most-five rs n a =
+pub at_most_five : (rs : List Region) (n : ℕ) (a : Range) → AtMostFive rs n a
+unfolding compared region_by_halving candidate
+at_most_five rs n a =
     record {
-      five = few (isShort rs a) _ 0 n;
+      five = few (is_short rs a) _ 0 n;
       settle =
           λ other h.
-          let same = alike (isShort rs a) (isShort other a) 4 0 n (λ j l. ap (λ (r : Region). ltb (end_of r.range) (end_of a)) (h j l)) in
-          let at = last_one (isShort rs a) 4 0 n in
+          let same = alike (is_short rs a) (is_short other a) 4 0 n (λ j l. ap (λ (r : Region). ltb (end_of r.range) (end_of a)) (h j l)) in
+          let at = last_one (is_short rs a) 4 0 n in
           let region = rw at.2 at (h at.0 at.1) in
-          ap (λ k. cond (holds anyRight other a k) k n) same ∙ ap (λ (r : Region). cond (within a r.range && true) (candidate rs n a) n) region;
+          ap (λ k. cond (holds any_right other a k) k n) same ∙ ap (λ (r : Region). cond (within a r.range && true) (candidate rs n a) n) region;
     }
 
 -- the number of what is found looks at no other region than the one that holds the first word
-number_in : (rs : List Region) (a : Range) (k : ℕ) → foundNumber (foundIn rs a k) ≡ cond (leb (end_of a) (end_of (rangeAt rs k))) 0 19
-number_in rs a k = either (leb (end_of a) (end_of (rangeAt rs k))) (λ e. rw e) (λ e. rw e)
+number_in : (rs : List Region) (a : Range) (k : ℕ) → found_number (found_in rs a k) ≡ cond (leb (end_of a) (end_of (range_at rs k))) 0 19
+number_in rs a k = either (leb (end_of a) (end_of (range_at rs k))) (λ e. rw e) (λ e. rw e)
 
 -- and that is the one that was left, which was compared
-pub number-settled : (rs : List Region) (n : ℕ) (a : Range) → NumberSettled rs n a
-unfolding compared findByHalving regionByHalving candidate
-number-settled rs n a =
+pub number_settled : (rs : List Region) (n : ℕ) (a : Range) → NumberSettled rs n a
+unfolding compared find_by_halving region_by_halving candidate
+number_settled rs n a =
     record {
-      five = (at-most-five rs n (first_of a)).five;
+      five = (at_most_five rs n (first_of a)).five;
       settle =
           λ other h.
           let first : Range = first_of a in
           let left : ℕ = candidate rs n first in
-          let at = last_one (isShort rs first) 4 0 n in
-          let region : regionAt other left ≡ regionAt rs left = rw at.2 at (h at.0 at.1) in
-          let end : leb (end_of a) (end_of (rangeAt other left)) ≡ leb (end_of a) (end_of (rangeAt rs left)) =
+          let at = last_one (is_short rs first) 4 0 n in
+          let region : region_at other left ≡ region_at rs left = rw at.2 at (h at.0 at.1) in
+          let end : leb (end_of a) (end_of (range_at other left)) ≡ leb (end_of a) (end_of (range_at rs left)) =
           ap (λ (r : Region). leb (end_of a) (end_of r.range)) region in
-          rw ((at-most-five rs n first).settle other h)
-          (either (holds anyRight rs first left)
+          rw ((at_most_five rs n first).settle other h)
+          (either (holds any_right rs first left)
           (λ e. rw e (either (ltb left n) (λ l. rw (l, number_in other a left, number_in rs a left, end)) (λ l. rw l)))
           (λ e. rw (e, le-ltb n n (omega arith))));
     }

@@ -2,10 +2,10 @@
 -- The lookup searches for the first word of its range (A5).
 -- A table by the rules is in order, and there it finds paper 01's region: `RightInOrder`.
 use Rattle.std.specs.Prelude.{◌≡◌, Bool, true, cond, List, [], ◌∷◌, ℕ, zero, suc, ◌+◌, ◌-◌, ◌/◌, ◌≤◌, ◌<◌, leb, ltb, length, get_or}
-use Rattle.rules.specs.Regions.{end_of, regionAt, rangeAt, tableRules, anyRight, holds, first_of, regionOf}
+use Rattle.rules.specs.Regions.{end_of, region_at, range_at, table_rules, any_right, holds, first_of, region_of}
 use Rattle.rules.specs.declared.Range.{Range}
 use Rattle.rules.specs.declared.Region.{Region}
-use Rattle.regions.specs.Lookup.{foundNumber, foundIn, findRegion}
+use Rattle.regions.specs.Lookup.{found_number, found_in, find_region}
 use Rattle.regions.specs.declared.Found.{Found}
 use Rattle.regions.specs.declared.Found.TheVariants.{StartsOutside}
 
@@ -16,47 +16,47 @@ abbrev pub middle : ℕ → ℕ → ℕ
 middle first left = first + left / 2 - 1
 
 -- if that one is short, the lower half goes
-abbrev pub nextFirst : (ℕ → Bool) → ℕ → ℕ → ℕ
-nextFirst short first left = cond (short (middle first left)) (first + left / 2) first
+abbrev pub next_first : (ℕ → Bool) → ℕ → ℕ → ℕ
+next_first short first left = cond (short (middle first left)) (first + left / 2) first
 
 -- the region that is left after so many rounds
-unfoldable pub oneLeft : (ℕ → Bool) → ℕ → ℕ → ℕ → ℕ
-oneLeft short zero first left = first
-oneLeft short (suc rounds) first left = cond (leb left 1) first (oneLeft short rounds (nextFirst short first left) (left - left / 2))
+unfoldable pub one_left : (ℕ → Bool) → ℕ → ℕ → ℕ → ℕ
+one_left short zero first left = first
+one_left short (suc rounds) first left = cond (leb left 1) first (one_left short rounds (next_first short first left) (left - left / 2))
 
 -- the regions that are compared: one in each round, and the one that is left
 unfoldable pub comparisons : (ℕ → Bool) → ℕ → ℕ → ℕ → List ℕ
 comparisons short zero first left = first ∷ []
 comparisons short (suc rounds) first left =
-    cond (leb left 1) (first ∷ []) (middle first left ∷ comparisons short rounds (nextFirst short first left) (left - left / 2))
+    cond (leb left 1) (first ∷ []) (middle first left ∷ comparisons short rounds (next_first short first left) (left - left / 2))
 
 -- THE SEARCH among the first n regions. Four rounds leave one of up to sixteen.
 
-abbrev pub isShort : List Region → Range → ℕ → Bool
-isShort rs a i = ltb (end_of (rangeAt rs i)) (end_of a)
+abbrev pub is_short : List Region → Range → ℕ → Bool
+is_short rs a i = ltb (end_of (range_at rs i)) (end_of a)
 
 -- the one region that may hold the range
 unfoldable pub candidate : List Region → ℕ → Range → ℕ
-candidate rs n a = oneLeft (isShort rs a) 4 0 n
+candidate rs n a = one_left (is_short rs a) 4 0 n
 
 -- that one, if it holds the range whole; else n
-unfoldable pub regionByHalving : List Region → ℕ → Range → ℕ
-regionByHalving rs n a = cond (holds anyRight rs a (candidate rs n a)) (candidate rs n a) n
+unfoldable pub region_by_halving : List Region → ℕ → Range → ℕ
+region_by_halving rs n a = cond (holds any_right rs a (candidate rs n a)) (candidate rs n a) n
 
 unfoldable pub compared : List Region → ℕ → Range → List ℕ
-compared rs n a = comparisons (isShort rs a) 4 0 n
+compared rs n a = comparisons (is_short rs a) 4 0 n
 
 -- AT MOST FIVE comparisons, and they settle the answer: a table that has the regions compared where this one has them is answered alike
 pub record AtMostFive (rs : List Region) (n : ℕ) (a : Range) : Type 0 where
   pub five : length (compared rs n a) ≤ 5
   pub settle : (other : List Region)
-      → ((j : ℕ) → j < length (compared rs n a) → regionAt other (get_or (compared rs n a) j 0) ≡ regionAt rs (get_or (compared rs n a) j 0))
-      → regionByHalving other n a ≡ regionByHalving rs n a
+      → ((j : ℕ) → j < length (compared rs n a) → region_at other (get_or (compared rs n a) j 0) ≡ region_at rs (get_or (compared rs n a) j 0))
+      → region_by_halving other n a ≡ region_by_halving rs n a
 
 -- THE LOOKUP: this search for the range's first word, and whether the region that holds it holds the range whole
-unfoldable pub findByHalving : List Region → ℕ → Range → Found
-findByHalving rs n a =
-    cond (ltb (regionByHalving rs n (first_of a)) n) (foundIn rs a (regionByHalving rs n (first_of a))) StartsOutside
+unfoldable pub find_by_halving : List Region → ℕ → Range → Found
+find_by_halving rs n a =
+    cond (ltb (region_by_halving rs n (first_of a)) n) (found_in rs a (region_by_halving rs n (first_of a))) StartsOutside
 
 -- THE LAWS. The regions that the search for the first word compares, at most five, settle the number of the lookup's answer: no sixth decides whether the
 -- range runs out.
@@ -64,11 +64,11 @@ pub record NumberSettled (rs : List Region) (n : ℕ) (a : Range) : Type 0 where
   pub five : length (compared rs n (first_of a)) ≤ 5
   pub settle : (other : List Region)
       → ((j : ℕ) → j < length (compared rs n (first_of a))
-      → regionAt other (get_or (compared rs n (first_of a)) j 0) ≡ regionAt rs (get_or (compared rs n (first_of a)) j 0))
-      → foundNumber (findByHalving other n a) ≡ foundNumber (findByHalving rs n a)
+      → region_at other (get_or (compared rs n (first_of a)) j 0) ≡ region_at rs (get_or (compared rs n (first_of a)) j 0))
+      → found_number (find_by_halving other n a) ≡ found_number (find_by_halving rs n a)
 
 -- In a table by the rules the search finds the region that holds a range whole, or n where none does, and so the lookup is that of the table.
 abbrev pub RightInOrder : Type 0
 RightInOrder =
-    (rs : List Region) (n : ℕ) (a : Range) → tableRules rs n ≡ true
-    → (regionByHalving rs n a ≡ regionOf rs n a) × (findByHalving rs n a ≡ findRegion rs n a)
+    (rs : List Region) (n : ℕ) (a : Range) → table_rules rs n ≡ true
+    → (region_by_halving rs n a ≡ region_of rs n a) × (find_by_halving rs n a ≡ find_region rs n a)

@@ -1,10 +1,10 @@
 -- The search by halving computed on tables: what it finds, and what it compares on the way.
 use Rattle.std.specs.Prelude.{◌≡◌, true, false, List, [], ◌∷◌, map, ℕ, ◌+◌, ◌*◌, ◌/◌}
 use Rattle.rules.specs.Examples.{range, both}
-use Rattle.rules.specs.Regions.{tableRules, regionOf}
+use Rattle.rules.specs.Regions.{table_rules, region_of}
 use Rattle.rules.specs.declared.Region.{Region}
-use Rattle.regions.specs.Halving.{regionByHalving, compared, findByHalving}
-use Rattle.regions.specs.Lookup.{foundNumber, foundIndex}
+use Rattle.regions.specs.Halving.{region_by_halving, compared, find_by_halving}
+use Rattle.regions.specs.Lookup.{found_number, found_index}
 use Rattle.regions.specs.declared.Found.TheVariants.{At}
 
 abbrev pub numbers : List ℕ
@@ -18,28 +18,28 @@ abbrev pub sixteen : List Region
 sixteen = map (λ i. both (start_at i) 4) numbers
 
 -- two regions, the higher one first
-abbrev pub outOfOrder : List Region
-outOfOrder = both 0x2000 4 ∷ both 0x1000 4 ∷ []
+abbrev pub out_of_order : List Region
+out_of_order = both 0x2000 4 ∷ both 0x1000 4 ∷ []
 
 pub record SearchExamples : Type 0 where
   -- each region whole, the last word of each, and the last region of tables of one to sixteen
-  pub whole : map (λ i. regionByHalving sixteen 16 (range (start_at i) 4)) numbers ≡ numbers
-  pub last_word : map (λ i. regionByHalving sixteen 16 (range (start_at i + 12) 1)) numbers ≡ numbers
-  pub fewer : map (λ n. regionByHalving sixteen (n + 1) (range (start_at n) 4)) numbers ≡ numbers
+  pub whole : map (λ i. region_by_halving sixteen 16 (range (start_at i) 4)) numbers ≡ numbers
+  pub last_word : map (λ i. region_by_halving sixteen 16 (range (start_at i + 12) 1)) numbers ≡ numbers
+  pub fewer : map (λ n. region_by_halving sixteen (n + 1) (range (start_at n) 4)) numbers ≡ numbers
   -- one word past each region's end: over an edge, in the gap, past the table
-  pub past : map (λ i. regionByHalving sixteen 16 (range (start_at i) 5)) numbers ≡ map (λ i. 16) numbers
-  pub outside : map (λ (a : ℕ). regionByHalving sixteen 16 (range a 1)) (0x0FFC ∷ 0x1080 ∷ 0x108C ∷ 0x1110 ∷ []) ≡ 16 ∷ 16 ∷ 16 ∷ 16 ∷ []
+  pub past : map (λ i. region_by_halving sixteen 16 (range (start_at i) 5)) numbers ≡ map (λ i. 16) numbers
+  pub outside : map (λ (a : ℕ). region_by_halving sixteen 16 (range a 1)) (0x0FFC ∷ 0x1080 ∷ 0x108C ∷ 0x1110 ∷ []) ≡ 16 ∷ 16 ∷ 16 ∷ 16 ∷ []
   -- the lookup: two words inside each region, with its number, and the index of the first; one word past each region's end; in the gap
-  pub found : map (λ i. findByHalving sixteen 16 (range (start_at i + 4) 2)) numbers
+  pub found : map (λ i. find_by_halving sixteen 16 (range (start_at i + 4) 2)) numbers
       ≡ map (λ i. At (record { region = i; load = true; dump = true })) numbers
-  pub index : map (λ i. (foundIndex sixteen (range (start_at i + 4) 2) (findByHalving sixteen 16 (range (start_at i + 4) 2))).0) numbers ≡ map (λ i. 4 * i + 1) numbers
-  pub runs-out : map (λ i. foundNumber (findByHalving sixteen 16 (range (start_at i + 12) 2))) numbers ≡ map (λ i. 19) numbers
-  pub starts-outside : map (λ (a : ℕ). foundNumber (findByHalving sixteen 16 (range a 2))) (0x0FFC ∷ 0x1080 ∷ 0x108C ∷ 0x1110 ∷ []) ≡ 10 ∷ 10 ∷ 10 ∷ 10 ∷ []
+  pub index : map (λ i. (found_index sixteen (range (start_at i + 4) 2) (find_by_halving sixteen 16 (range (start_at i + 4) 2))).0) numbers ≡ map (λ i. 4 * i + 1) numbers
+  pub runs_out_lem : map (λ i. found_number (find_by_halving sixteen 16 (range (start_at i + 12) 2))) numbers ≡ map (λ i. 19) numbers
+  pub starts_outside : map (λ (a : ℕ). found_number (find_by_halving sixteen 16 (range a 2))) (0x0FFC ∷ 0x1080 ∷ 0x108C ∷ 0x1110 ∷ []) ≡ 10 ∷ 10 ∷ 10 ∷ 10 ∷ []
   -- the regions that are compared, in order
-  pub with-region-0 : compared sixteen 16 (range 0x1000 4) ≡ 7 ∷ 3 ∷ 1 ∷ 0 ∷ 0 ∷ []
-  pub with-region-10 : compared sixteen 16 (range 0x10B0 4) ≡ 7 ∷ 11 ∷ 9 ∷ 10 ∷ 10 ∷ []
-  pub with-region-15 : compared sixteen 16 (range 0x1100 4) ≡ 7 ∷ 11 ∷ 13 ∷ 14 ∷ 15 ∷ []
+  pub with_region_0 : compared sixteen 16 (range 0x1000 4) ≡ 7 ∷ 3 ∷ 1 ∷ 0 ∷ 0 ∷ []
+  pub with_region_10 : compared sixteen 16 (range 0x10B0 4) ≡ 7 ∷ 11 ∷ 9 ∷ 10 ∷ 10 ∷ []
+  pub with_region_15 : compared sixteen 16 (range 0x1100 4) ≡ 7 ∷ 11 ∷ 13 ∷ 14 ∷ 15 ∷ []
   pub of_one : compared sixteen 1 (range 0x1000 4) ≡ 0 ∷ []
   pub of_three : compared sixteen 3 (range 0x1020 4) ≡ 0 ∷ 1 ∷ 2 ∷ []
   -- a table that is not in order breaks a rule, and there the search misses what paper 01 would find
-  pub not-in-order : (tableRules outOfOrder 2 ≡ false) × (regionOf outOfOrder 2 (range 0x1000 1) ≡ 1) × (regionByHalving outOfOrder 2 (range 0x1000 1) ≡ 2)
+  pub not_in_order : (table_rules out_of_order 2 ≡ false) × (region_of out_of_order 2 (range 0x1000 1) ≡ 1) × (region_by_halving out_of_order 2 (range 0x1000 1) ≡ 2)

@@ -1,8 +1,8 @@
 // Regions: the rules of one, what a lookup answers, and the table of a State. The table of a block of words is in lent_regions.
 ghost use Rattle.std.specs.Prelude.{◌≡◌, true, List, ℕ, ◌+◌, ◌*◌, ◌-◌, ◌/◌, ◌≤◌, min, length};
-ghost use Rattle.rules.specs.Regions.{tableRules, first_of, wordsBelow};
-ghost use Rattle.regions.specs.Halving.{regionByHalving, compared, AtMostFive, NumberSettled, RightInOrder, findByHalving};
-ghost use Rattle.regions.specs.Lookup.{rulesBy, holdsBy, tableWords, canDump, FoundWhen, wordIndex, IndexWhen};
+ghost use Rattle.rules.specs.Regions.{table_rules, first_of, words_below};
+ghost use Rattle.regions.specs.Halving.{region_by_halving, compared, AtMostFive, NumberSettled, RightInOrder, find_by_halving};
+ghost use Rattle.regions.specs.Lookup.{rules_by, holds_by, table_words, can_dump, FoundWhen, word_index, IndexWhen};
 ghost use Rattle.regions.specs.SearchExamples.{SearchExamples};
 ghost use Rattle.rules.specs.declared.Range.{Range};
 ghost use Rattle.rules.specs.declared.Region.{Region};
@@ -43,7 +43,7 @@ pub fn end_of(start: u32, words: u32) -> u64
 
 // The rules of a region, with the end of the region before it.
 pub fn region_rules(start: u32, words: u32, before: u64) -> bool
-    ensures { result ≡ rulesBy start words before }
+    ensures { result ≡ rules_by start words before }
 {
     (start % 4 == 0)
         & (1 <= words)
@@ -54,7 +54,7 @@ pub fn region_rules(start: u32, words: u32, before: u64) -> bool
 
 // Whether a region holds whole what begins at `from` and ends at `end`.
 pub fn is_holding(start: u32, words: u32, from: u32, end: u64) -> bool
-    ensures { result ≡ holdsBy start words from end }
+    ensures { result ≡ holds_by start words from end }
 {
     (start <= from) & (end <= end_of(start, words))
 }
@@ -83,7 +83,7 @@ pub fn entries(n: usize) -> usize
 
 // Whether what was found has the dump right.
 pub fn can_dump(f: Found) -> bool
-    ensures { result ≡ canDump f }
+    ensures { result ≡ can_dump f }
 {
     match f {
         Found::At(spot) => spot.dump,
@@ -96,7 +96,7 @@ pub fn can_dump(f: Found) -> bool
 
 // The words of the image of the first n regions, or 0 where the table breaks a rule.
 pub fn table_words(rs: [Region; 16], n: usize) -> usize
-    ensures { result ≡ tableWords rs n }
+    ensures { result ≡ table_words rs n }
 {
     if (n == 0) | (16 < n) {
         return 0;
@@ -120,7 +120,7 @@ pub fn table_words(rs: [Region; 16], n: usize) -> usize
 
 // The region that holds the range whole, by halving. Right for a table by the rules, since that is in order.
 fn region_of(rs: [Region; 16], n: usize, a: Range) -> Searched
-    ensures { (result.region ≡ regionByHalving rs (min n 16) a) × (result.compared ≡ length (compared rs (min n 16) a)) × AtMostFive rs (min n 16) a }
+    ensures { (result.region ≡ region_by_halving rs (min n 16) a) × (result.compared ≡ length (compared rs (min n 16) a)) × AtMostFive rs (min n 16) a }
 {
     let m = entries(n);
     let from = a.start.0;
@@ -153,7 +153,7 @@ fn region_of(rs: [Region; 16], n: usize, a: Range) -> Searched
 // The words of the first k regions.
 fn words_below(rs: [Region; 16], k: usize) -> usize
     requires { k ≤ 16 }
-    ensures { (result ≡ wordsBelow rs k) × (result ≤ 4294967296 * k) }
+    ensures { (result ≡ words_below rs k) × (result ≤ 4294967296 * k) }
 {
     let mut total: usize = 0;
     let mut i: usize = 0;
@@ -167,7 +167,7 @@ fn words_below(rs: [Region; 16], k: usize) -> usize
 
 // The region that holds the range whole, or how it missed. The search is for its first word.
 pub fn find_region(rs: [Region; 16], n: usize, a: Range) -> Found
-    ensures { (result ≡ findByHalving rs (min n 16) a) × (tableRules rs n ≡ true → FoundWhen rs n a result) }
+    ensures { (result ≡ find_by_halving rs (min n 16) a) × (table_rules rs n ≡ true → FoundWhen rs n a result) }
 {
     let searched = region_of(rs, n, first_word(a));
     let k = searched.region;
@@ -188,7 +188,7 @@ pub fn find_region(rs: [Region; 16], n: usize, a: Range) -> Found
 // The index in the image of the first word of a range that region k holds. Only this makes an index from an address, and only those ask it that
 // read or write the range's words.
 pub fn word_index(rs: [Region; 16], k: u8, a: Range) -> WordIndex
-    ensures { (result ≡ wordIndex rs k a) × ((n : ℕ) → tableRules rs n ≡ true → IndexWhen rs n k a result) }
+    ensures { (result ≡ word_index rs k a) × ((n : ℕ) → table_rules rs n ≡ true → IndexWhen rs n k a result) }
 {
     let i = k as usize;
     if 16 <= i {

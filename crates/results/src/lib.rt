@@ -1,7 +1,7 @@
 // Paper 01's number, and the length, of each answer.
 ghost use Rattle.std.specs.Prelude.{◌≡◌, ◌%◌};
-ghost use Rattle.rules.specs.Ground.{readingNumber, packetNumber};
-ghost use Rattle.rules.specs.Results.{number, verdictNumber, answerNumber, answerLength};
+ghost use Rattle.rules.specs.Ground.{reading_number, packet_number};
+ghost use Rattle.rules.specs.Results.{number, verdict_number, answer_number, answer_length};
 
 use rules::{Answer, PacketReading, Reading, Refusal, Verdict};
 
@@ -32,7 +32,7 @@ pub fn refusal_number(r: Refusal) -> u32
 }
 
 pub fn verdict_number(v: Verdict) -> u32
-    ensures { result ≡ verdictNumber v }
+    ensures { result ≡ verdict_number v }
 {
     match v {
         Verdict::Accepted => 0,
@@ -41,7 +41,7 @@ pub fn verdict_number(v: Verdict) -> u32
 }
 
 pub fn answer_number(a: Answer) -> u32
-    ensures { result ≡ answerNumber a }
+    ensures { result ≡ answer_number a }
 {
     match a {
         Answer::Refused(r) => refusal_number(r),
@@ -51,7 +51,7 @@ pub fn answer_number(a: Answer) -> u32
 
 // How many bytes the call wrote; 0 for a refusal.
 pub fn answer_length(a: Answer) -> usize
-    ensures { result ≡ answerLength a }
+    ensures { result ≡ answer_length a }
 {
     match a {
         Answer::Refused(_) => 0,
@@ -60,7 +60,7 @@ pub fn answer_length(a: Answer) -> usize
 }
 
 pub fn reading_number(a: Reading) -> u32
-    ensures { result ≡ readingNumber a }
+    ensures { result ≡ reading_number a }
 {
     match a {
         Reading::Unread(r) => refusal_number(r),
@@ -69,7 +69,7 @@ pub fn reading_number(a: Reading) -> u32
 }
 
 pub fn packet_number(a: PacketReading) -> u32
-    ensures { result ≡ packetNumber a }
+    ensures { result ≡ packet_number a }
 {
     match a {
         PacketReading::NoPacket(r) => refusal_number(r),
@@ -79,7 +79,7 @@ pub fn packet_number(a: PacketReading) -> u32
 
 // Hands an answer over to C: the bytes written, and the number.
 pub fn hand_over(a: Answer, bytes: &mut u32) -> u32
-    ensures { (result ≡ answerNumber a) × (bytes.new ≡ answerLength a % 4294967296) }
+    ensures { (result ≡ answer_number a) × (bytes.new ≡ answer_length a % 4294967296) }
 {
     *bytes = (answer_length(a) % 4294967296) as u32;
     answer_number(a)

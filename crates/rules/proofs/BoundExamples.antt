@@ -2,22 +2,22 @@
 -- Assumes nothing.
 use mathlib.Core.Path.{refl}
 use Rattle.lists.specs.Splice.{splice}
-use Rattle.wire.specs.Bytes.{word_bytes, wordsAt}
-use Rattle.wire.specs.Xor.{xorAll}
-use Rattle.rules.specs.Regions.{tableRules, inOneRegion, wordsBelow, regionOf, imageIndex, words_of}
-use Rattle.rules.specs.States.{startRules, entriesUsed, startUp, pieceWords, dumpRules, placesRules, countRules, goodState}
-use Rattle.rules.specs.Results.{lowest, lentRows}
-use Rattle.rules.specs.Packets.{wellFormed, decode, nameIn, fieldRules, zeroRules, sealed, commandBytes}
-use Rattle.rules.specs.Pools.{blocks_from, replyBytes}
-use Rattle.rules.specs.Commands.{task, anyWith, anyIdle, commandRows, firstIdle, firstWith, commandCall}
-use Rattle.symbols.specs.Table.{symbolTable, resolvedBy, hasName, recordOf, value_of}
-use Rattle.rules.specs.Values.{valueBytes}
-use Rattle.rules.specs.Slots.{anyBusy, slotRows, nextPlace, nextWords, packetBytes, afterPacket, slotCall}
-use Rattle.rules.specs.Ground.{headerRules, writerRows, writeCommand, readerRows, readCommand, cutRules, packetRows, readPacket}
+use Rattle.wire.specs.Bytes.{word_bytes, words_at}
+use Rattle.wire.specs.Xor.{xor_all}
+use Rattle.rules.specs.Regions.{table_rules, in_one_region, words_below, region_of, image_index, words_of}
+use Rattle.rules.specs.States.{start_rules, entries_used, start_up, piece_words, dump_rules, places_rules, count_rules, good_state}
+use Rattle.rules.specs.Results.{lowest, lent_rows}
+use Rattle.rules.specs.Packets.{well_formed, decode, name_in, field_rules, zero_rules, sealed, command_bytes}
+use Rattle.rules.specs.Pools.{blocks_from, reply_bytes}
+use Rattle.rules.specs.Commands.{task, any_with, any_idle, command_rows, first_idle, first_with, command_call}
+use Rattle.symbols.specs.Table.{symbol_table, resolved_by, has_name, record_of, value_of}
+use Rattle.rules.specs.Values.{value_bytes}
+use Rattle.rules.specs.Slots.{any_busy, slot_rows, next_place, next_words, packet_bytes, after_packet, slot_call}
+use Rattle.rules.specs.Ground.{header_rules, writer_rows, write_command, reader_rows, read_command, cut_rules, packet_rows, read_packet}
 use Rattle.rules.specs.Demand3.{accepts, writes, pieces}
 use Rattle.rules.specs.BoundExamples.{BoundExamples}
 
-pub bound-examples : BoundExamples
-unfolding splice word_bytes wordsAt xorAll tableRules inOneRegion wordsBelow regionOf imageIndex words_of startRules entriesUsed startUp pieceWords dumpRules placesRules countRules goodState lowest lentRows wellFormed decode nameIn fieldRules zeroRules sealed commandBytes blocks_from replyBytes task anyWith anyIdle commandRows firstIdle firstWith commandCall anyBusy slotRows nextPlace nextWords packetBytes afterPacket slotCall accepts writes pieces headerRules writerRows writeCommand readerRows readCommand cutRules packetRows readPacket symbolTable resolvedBy hasName recordOf value_of valueBytes
-bound-examples =
-    record { round = refl; lowest-place = refl; wraps = refl; wraps-values = refl; start-region = refl; start-regions = refl; start-pools = refl; start-unit = refl; good-counts = refl; good-dumps = refl; bad-dumps = refl; good-numbers = refl; shared-numbers = refl }
+pub bound_examples : BoundExamples
+unfolding splice word_bytes words_at xor_all table_rules in_one_region words_below region_of image_index words_of start_rules entries_used start_up piece_words dump_rules places_rules count_rules good_state lowest lent_rows well_formed decode name_in field_rules zero_rules sealed command_bytes blocks_from reply_bytes task any_with any_idle command_rows first_idle first_with command_call any_busy slot_rows next_place next_words packet_bytes after_packet slot_call accepts writes pieces header_rules writer_rows write_command reader_rows read_command cut_rules packet_rows read_packet symbol_table resolved_by has_name record_of value_of value_bytes
+bound_examples =
+    record { round = refl; lowest_place = refl; wraps = refl; wraps_values = refl; start_region = refl; start_regions = refl; start_pools = refl; start_unit = refl; good_counts = refl; good_dumps = refl; bad_dumps = refl; good_numbers = refl; shared_numbers = refl }

@@ -11,24 +11,24 @@ use Rattle.rules.specs.Demand3.{pieces, joined}
 
 module _ (z : ℕ) (some : 0 < z) where
   -- a piece is due if the words before it are fewer than those asked for
-  pub due-before : (j n : ℕ) → z * j < n → j < pieces z n
+  pub due_before : (j n : ℕ) → z * j < n → j < pieces z n
   unfolding pieces
-  due-before j n h = (le-div_iff_mul-le {k = z} {x = suc j} {y = n + (z - 1)} some).1 (omega arith)
+  due_before j n h = (le-div_iff_mul-le {k = z} {x = suc j} {y = n + (z - 1)} some).1 (omega arith)
 
   -- and the last if no words are left after it
-  pub due-last : (j n : ℕ) → z * j < n → n ≤ z * j + z → suc j ≡ pieces z n
+  pub due_last : (j n : ℕ) → z * j < n → n ≤ z * j + z → suc j ≡ pieces z n
   unfolding pieces
-  due-last j n h k = sym (div-eq_of_lt-le {k = suc j} z {m = n + (z - 1)} (omega arith) (omega arith))
+  due_last j n h k = sym (div-eq_of_lt-le {k = suc j} z {m = n + (z - 1)} (omega arith) (omega arith))
 
-joined-take : (z : ℕ) (ws : List ℕ) (j : ℕ) → joined z ws j ≡ take (z * j) ws
-joined-take z ws zero = rw mul-zero
-joined-take z ws (suc j) =
+joined_take : (z : ℕ) (ws : List ℕ) (j : ℕ) → joined z ws j ≡ take (z * j) ws
+joined_take z ws zero = rw mul-zero
+joined_take z ws (suc j) =
     let q : z * suc j ≡ z * j + z = omega arith in
-    rw (q, take-add, joined-take z ws j)
+    rw (q, take-add, joined_take z ws j)
 
-pub pieces-cover : (z n : ℕ) → 0 < z → (ws : List ℕ) → length ws ≡ n → joined z ws (pieces z n) ≡ ws
+pub pieces_cover : (z n : ℕ) → 0 < z → (ws : List ℕ) → length ws ≡ n → joined z ws (pieces z n) ≡ ws
 unfolding pieces
-pieces-cover z n some ws h =
+pieces_cover z n some ws h =
     let m = (n + (z - 1)) / z in
     let q : length ws ≤ z * m = omega (arith, lt-mul-div-succ (n + (z - 1)) some) in
-    joined-take z ws m ∙ take_all (z * m) ws q
+    joined_take z ws m ∙ take_all (z * m) ws q

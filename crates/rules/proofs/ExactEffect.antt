@@ -1,30 +1,30 @@
 -- Demand 2, from its parts.
 -- Assumes nothing.
 use Rattle.rules.specs.Demand2.{Demand2}
-use Rattle.symbols.proofs.Logic.{table-when, resolves-when}
-use Rattle.rules.proofs.Pools.{blocks-are, block-bits}
-use Rattle.rules.proofs.GoodWhen.{region-when, start-when, good-when}
-use Rattle.rules.proofs.AcceptedWhen.{accepted-when}
-use Rattle.rules.proofs.Missed.{missed-when}
+use Rattle.symbols.proofs.Logic.{table_when, resolves_when}
+use Rattle.rules.proofs.Pools.{blocks_are, block_bits}
+use Rattle.rules.proofs.GoodWhen.{region_when, start_when, good_when}
+use Rattle.rules.proofs.AcceptedWhen.{accepted_when}
+use Rattle.rules.proofs.Missed.{missed_when}
 use Rattle.rules.proofs.Effects.{effects}
 use Rattle.rules.proofs.Slot.{slot}
-use Rattle.rules.proofs.StaysGood.{command-good, slot-good, start-good}
+use Rattle.rules.proofs.StaysGood.{command_good, slot_good, start_good}
 
-pub demand-2 : Demand2
-demand-2 =
+pub demand_2 : Demand2
+demand_2 =
     record {
-      accepted-when = accepted-when;
-      missed-when = missed-when;
+      accepted_when = accepted_when;
+      missed_when = missed_when;
       effects = effects;
       slot = slot;
-      blocks-are = blocks-are;
-      block-bits = block-bits;
-      region-when = region-when;
-      start-when = start-when;
-      good-when = good-when;
-      table-when = table-when;
-      resolves-when = resolves-when;
-      command-good = command-good;
-      slot-good = slot-good;
-      start-good = start-good;
+      blocks_are = blocks_are;
+      block_bits = block_bits;
+      region_when = region_when;
+      start_when = start_when;
+      good_when = good_when;
+      table_when = table_when;
+      resolves_when = resolves_when;
+      command_good = command_good;
+      slot_good = slot_good;
+      start_good = start_good;
     }

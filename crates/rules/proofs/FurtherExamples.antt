@@ -2,20 +2,20 @@
 -- Assumes nothing.
 use mathlib.Core.Path.{refl}
 use Rattle.lists.specs.Splice.{splice}
-use Rattle.wire.specs.Bytes.{word_bytes, wordsAt}
-use Rattle.wire.specs.Xor.{xorAll}
-use Rattle.rules.specs.Regions.{tableRules, inOneRegion, wordsBelow, regionOf, imageIndex, words_of}
-use Rattle.rules.specs.States.{startRules, entriesUsed, startUp, pieceWords, dumpRules, placesRules, countRules, goodState}
-use Rattle.rules.specs.Results.{lowest, lentRows}
-use Rattle.rules.specs.Packets.{wellFormed, decode, nameIn, fieldRules, zeroRules, sealed, commandBytes}
-use Rattle.rules.specs.Pools.{blocks_from, replyBytes}
-use Rattle.rules.specs.Commands.{task, anyWith, anyIdle, commandRows, firstIdle, firstWith, commandCall}
-use Rattle.rules.specs.Slots.{anyBusy, slotRows, nextPlace, nextWords, packetBytes, afterPacket, slotCall}
-use Rattle.rules.specs.Ground.{headerRules, writerRows, writeCommand, readerRows, readCommand, cutRules, packetRows, readPacket}
+use Rattle.wire.specs.Bytes.{word_bytes, words_at}
+use Rattle.wire.specs.Xor.{xor_all}
+use Rattle.rules.specs.Regions.{table_rules, in_one_region, words_below, region_of, image_index, words_of}
+use Rattle.rules.specs.States.{start_rules, entries_used, start_up, piece_words, dump_rules, places_rules, count_rules, good_state}
+use Rattle.rules.specs.Results.{lowest, lent_rows}
+use Rattle.rules.specs.Packets.{well_formed, decode, name_in, field_rules, zero_rules, sealed, command_bytes}
+use Rattle.rules.specs.Pools.{blocks_from, reply_bytes}
+use Rattle.rules.specs.Commands.{task, any_with, any_idle, command_rows, first_idle, first_with, command_call}
+use Rattle.rules.specs.Slots.{any_busy, slot_rows, next_place, next_words, packet_bytes, after_packet, slot_call}
+use Rattle.rules.specs.Ground.{header_rules, writer_rows, write_command, reader_rows, read_command, cut_rules, packet_rows, read_packet}
 use Rattle.rules.specs.Demand3.{accepts, writes, pieces}
 use Rattle.rules.specs.FurtherExamples.{FurtherExamples}
 
-pub further-examples : FurtherExamples
-unfolding splice word_bytes wordsAt xorAll tableRules inOneRegion wordsBelow regionOf imageIndex words_of startRules entriesUsed startUp pieceWords dumpRules placesRules countRules goodState lowest lentRows wellFormed decode nameIn fieldRules zeroRules sealed commandBytes blocks_from replyBytes task anyWith anyIdle commandRows firstIdle firstWith commandCall anyBusy slotRows nextPlace nextWords packetBytes afterPacket slotCall accepts writes pieces headerRules writerRows writeCommand readerRows readCommand cutRules packetRows readPacket
-further-examples =
-    record { rights = refl; runs-out = refl; outside = refl; longest = refl; touching = refl; runs-out-order = refl; runs-out-counted = refl; cancels = refl; figures = refl; usable = refl; damage = refl; turns = refl; read = refl; read-words = refl; unread = refl; bounds = refl; left = refl; fields = refl; part = refl }
+pub further_examples : FurtherExamples
+unfolding splice word_bytes words_at xor_all table_rules in_one_region words_below region_of image_index words_of start_rules entries_used start_up piece_words dump_rules places_rules count_rules good_state lowest lent_rows well_formed decode name_in field_rules zero_rules sealed command_bytes blocks_from reply_bytes task any_with any_idle command_rows first_idle first_with command_call any_busy slot_rows next_place next_words packet_bytes after_packet slot_call accepts writes pieces header_rules writer_rows write_command reader_rows read_command cut_rules packet_rows read_packet
+further_examples =
+    record { rights = refl; runs_out_lem = refl; outside = refl; longest = refl; touching = refl; runs_out_order = refl; runs_out_counted = refl; cancels = refl; figures = refl; usable = refl; damage = refl; turns = refl; read = refl; read_words = refl; unread = refl; bounds = refl; left = refl; fields = refl; part = refl }

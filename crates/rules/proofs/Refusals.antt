@@ -10,19 +10,19 @@ use native.Mathlib.Omega.{arith}
 use lib.ListN.{length, drop}
 use borrow.Author.Tests.{eqb-true, ltb-false, not-false}
 use Rattle.lists.proofs.Tests.{either, contra}
-use Rattle.lists.proofs.Splice.{splice-length, splice-rest}
+use Rattle.lists.proofs.Splice.{splice_length, splice_rest}
 use Rattle.symbols.specs.Table.{value_of}
-use Rattle.rules.specs.Regions.{imageLength, tableRules}
-use Rattle.rules.specs.States.{entriesUsed, startRules, startUp, noState, goodState, contextAt}
-use Rattle.rules.specs.Packets.{decode, nameIn, commandTransaction, commandBytes}
-use Rattle.rules.specs.Values.{valueLength, valueBytes}
+use Rattle.rules.specs.Regions.{image_length, table_rules}
+use Rattle.rules.specs.States.{entries_used, start_rules, start_up, no_state, good_state, context_at}
+use Rattle.rules.specs.Packets.{decode, name_in, command_transaction, command_bytes}
+use Rattle.rules.specs.Values.{value_length, value_bytes}
 use Rattle.rules.specs.Cases.{bytes_of}
-use Rattle.rules.specs.Pools.{Walk, damaged, whole, blocksOf, isDamaged, replyLength}
-use Rattle.rules.specs.Results.{number, counted, answerLength, verdictNumber, answerNumber, Row, lowest, lentRows}
-use Rattle.rules.specs.Commands.{CommandArgs, Outcome, task_of, task, isUnknown, namesSymbol, wrongRange, poolWords, commandRows, acceptedMore, refusedCommand, replied, told, carryOut, conclude, commandCall}
-use Rattle.rules.specs.Slots.{SlotArgs, isBusy, anyBusy, longestPacket, slotRows, nextPlace, refusedSlot, serve, concludeSlot, slotCall}
-use Rattle.rules.specs.Ground.{writerRows, concludeWrite, writeCommand, readerRows, readingNumber, noWords, fieldsRead, concludeRead, readCommand, packetRows, packetNumber, concludePacket, readPacket}
-use Rattle.rules.specs.Demand1.{LowestBy, Lowest, afterTen, CommandRefusals, SlotRefusals, StartRefusals, GroundRefusals, Demand1}
+use Rattle.rules.specs.Pools.{Walk, damaged, whole, blocks_of, is_damaged, reply_length}
+use Rattle.rules.specs.Results.{number, counted, answer_length, verdict_number, answer_number, Row, lowest, lent_rows}
+use Rattle.rules.specs.Commands.{CommandArgs, Outcome, task_of, task, is_unknown, names_symbol, wrong_range, pool_words, command_rows, accepted_more, refused_command, replied, told, carry_out, conclude, command_call}
+use Rattle.rules.specs.Slots.{SlotArgs, is_busy, any_busy, longest_packet, slot_rows, next_place, refused_slot, serve, conclude_slot, slot_call}
+use Rattle.rules.specs.Ground.{writer_rows, conclude_write, write_command, reader_rows, reading_number, no_words, fields_read, conclude_read, read_command, packet_rows, packet_number, conclude_packet, read_packet}
+use Rattle.rules.specs.Demand1.{LowestBy, Lowest, after_ten, CommandRefusals, SlotRefusals, StartRefusals, GroundRefusals, Demand1}
 use Rattle.rules.specs.declared.Command.{Command}
 use Rattle.rules.specs.declared.Command.TheVariants.{Dump, Cancel, Load, PoolStatistics, SymbolValue, DumpSymbol}
 use Rattle.rules.specs.declared.Context.{Context}
@@ -39,59 +39,59 @@ use Rattle.rules.specs.declared.Task.{Task}
 use Rattle.rules.specs.declared.Task.TheVariants.{Nothing, DumpRange, CancelDump, LoadRange, CountPool, TellValue}
 use Rattle.rules.specs.declared.Verdict.{Verdict}
 use Rattle.rules.specs.declared.Verdict.TheVariants.{Accepted, Rejected}
-use Rattle.rules.proofs.Good.{good-out}
-use Rattle.rules.proofs.LowestNumber.{number-some, lowest-number, without, lowest-without, first-number, test-passed}
-use Rattle.rules.proofs.Fits.{load-keeps-length, reply-keeps-length, packet-keeps-length, command-keeps-length, command-length}
-use Rattle.rules.proofs.Round.{next-busy}
-use Rattle.rules.proofs.Passed.{Tested, whole-passed, tests-passed}
-use Rattle.rules.proofs.Cases.{names-none, command-cases, slot_cases}
-use Rattle.rules.proofs.AnswerNumbers.{answer-numbers}
-use Rattle.rules.proofs.GroundCases.{length-of, writer-cases, reader-cases, packet-cases}
+use Rattle.rules.proofs.Good.{good_out}
+use Rattle.rules.proofs.LowestNumber.{number_some, lowest_number, without, lowest_without, first_number, test_passed}
+use Rattle.rules.proofs.Fits.{load_keeps_length, reply_keeps_length, packet_keeps_length, command_keeps_length, command_length}
+use Rattle.rules.proofs.Round.{next_busy}
+use Rattle.rules.proofs.Passed.{Tested, whole_passed, tests_passed}
+use Rattle.rules.proofs.Cases.{names_none, command_cases, slot_cases}
+use Rattle.rules.proofs.AnswerNumbers.{answer_numbers}
+use Rattle.rules.proofs.GroundCases.{length_of, writer_cases, reader_cases, packet_cases}
 
 -- these numbers are not counted, and every other but 16 is
-these-keep : (r : Refusal)
+these_keep : (r : Refusal)
     → (number r ≡ 1 → counted r ≡ false) × (number r ≡ 2 → counted r ≡ false) × (number r ≡ 3 → counted r ≡ false)
     × (number r ≡ 5 → counted r ≡ false) × (number r ≡ 8 → counted r ≡ false)
-these-keep BadState = (λ e. refl, λ e. refl, λ e. refl, λ e. refl, λ e. refl)
-these-keep ImageLength = (λ e. refl, λ e. refl, λ e. refl, λ e. refl, λ e. refl)
-these-keep BufferLength = (λ e. refl, λ e. refl, λ e. refl, λ e. refl, λ e. refl)
-these-keep Malformed = (λ e. absurd (omega arith), λ e. absurd (omega arith), λ e. absurd (omega arith), λ e. absurd (omega arith), λ e. absurd (omega arith))
-these-keep OtherApid = (λ e. refl, λ e. refl, λ e. refl, λ e. refl, λ e. refl)
-these-keep UnknownCode = (λ e. absurd (omega arith), λ e. absurd (omega arith), λ e. absurd (omega arith), λ e. absurd (omega arith), λ e. absurd (omega arith))
-these-keep PacketLength = (λ e. absurd (omega arith), λ e. absurd (omega arith), λ e. absurd (omega arith), λ e. absurd (omega arith), λ e. absurd (omega arith))
-these-keep OtherUnit = (λ e. refl, λ e. refl, λ e. refl, λ e. refl, λ e. refl)
-these-keep BadField = (λ e. absurd (omega arith), λ e. absurd (omega arith), λ e. absurd (omega arith), λ e. absurd (omega arith), λ e. absurd (omega arith))
-these-keep OutsideRegions = (λ e. absurd (omega arith), λ e. absurd (omega arith), λ e. absurd (omega arith), λ e. absurd (omega arith), λ e. absurd (omega arith))
-these-keep NoRight = (λ e. absurd (omega arith), λ e. absurd (omega arith), λ e. absurd (omega arith), λ e. absurd (omega arith), λ e. absurd (omega arith))
-these-keep TransactionBusy = (λ e. absurd (omega arith), λ e. absurd (omega arith), λ e. absurd (omega arith), λ e. absurd (omega arith), λ e. absurd (omega arith))
-these-keep PlacesBusy = (λ e. absurd (omega arith), λ e. absurd (omega arith), λ e. absurd (omega arith), λ e. absurd (omega arith), λ e. absurd (omega arith))
-these-keep NotBusy = (λ e. absurd (omega arith), λ e. absurd (omega arith), λ e. absurd (omega arith), λ e. absurd (omega arith), λ e. absurd (omega arith))
-these-keep PoolDamaged = (λ e. absurd (omega arith), λ e. absurd (omega arith), λ e. absurd (omega arith), λ e. absurd (omega arith), λ e. absurd (omega arith))
-these-keep NothingToSend = (λ e. refl, λ e. refl, λ e. refl, λ e. refl, λ e. refl)
-these-keep BadTable = (λ e. absurd (omega arith), λ e. absurd (omega arith), λ e. absurd (omega arith), λ e. absurd (omega arith), λ e. absurd (omega arith))
-these-keep UnknownSymbol = (λ e. absurd (omega arith), λ e. absurd (omega arith), λ e. absurd (omega arith), λ e. absurd (omega arith), λ e. absurd (omega arith))
-these-keep RunsOut = (λ e. absurd (omega arith), λ e. absurd (omega arith), λ e. absurd (omega arith), λ e. absurd (omega arith), λ e. absurd (omega arith))
+these_keep BadState = (λ e. refl, λ e. refl, λ e. refl, λ e. refl, λ e. refl)
+these_keep ImageLength = (λ e. refl, λ e. refl, λ e. refl, λ e. refl, λ e. refl)
+these_keep BufferLength = (λ e. refl, λ e. refl, λ e. refl, λ e. refl, λ e. refl)
+these_keep Malformed = (λ e. absurd (omega arith), λ e. absurd (omega arith), λ e. absurd (omega arith), λ e. absurd (omega arith), λ e. absurd (omega arith))
+these_keep OtherApid = (λ e. refl, λ e. refl, λ e. refl, λ e. refl, λ e. refl)
+these_keep UnknownCode = (λ e. absurd (omega arith), λ e. absurd (omega arith), λ e. absurd (omega arith), λ e. absurd (omega arith), λ e. absurd (omega arith))
+these_keep PacketLength = (λ e. absurd (omega arith), λ e. absurd (omega arith), λ e. absurd (omega arith), λ e. absurd (omega arith), λ e. absurd (omega arith))
+these_keep OtherUnit = (λ e. refl, λ e. refl, λ e. refl, λ e. refl, λ e. refl)
+these_keep BadField = (λ e. absurd (omega arith), λ e. absurd (omega arith), λ e. absurd (omega arith), λ e. absurd (omega arith), λ e. absurd (omega arith))
+these_keep OutsideRegions = (λ e. absurd (omega arith), λ e. absurd (omega arith), λ e. absurd (omega arith), λ e. absurd (omega arith), λ e. absurd (omega arith))
+these_keep NoRight = (λ e. absurd (omega arith), λ e. absurd (omega arith), λ e. absurd (omega arith), λ e. absurd (omega arith), λ e. absurd (omega arith))
+these_keep TransactionBusy = (λ e. absurd (omega arith), λ e. absurd (omega arith), λ e. absurd (omega arith), λ e. absurd (omega arith), λ e. absurd (omega arith))
+these_keep PlacesBusy = (λ e. absurd (omega arith), λ e. absurd (omega arith), λ e. absurd (omega arith), λ e. absurd (omega arith), λ e. absurd (omega arith))
+these_keep NotBusy = (λ e. absurd (omega arith), λ e. absurd (omega arith), λ e. absurd (omega arith), λ e. absurd (omega arith), λ e. absurd (omega arith))
+these_keep PoolDamaged = (λ e. absurd (omega arith), λ e. absurd (omega arith), λ e. absurd (omega arith), λ e. absurd (omega arith), λ e. absurd (omega arith))
+these_keep NothingToSend = (λ e. refl, λ e. refl, λ e. refl, λ e. refl, λ e. refl)
+these_keep BadTable = (λ e. absurd (omega arith), λ e. absurd (omega arith), λ e. absurd (omega arith), λ e. absurd (omega arith), λ e. absurd (omega arith))
+these_keep UnknownSymbol = (λ e. absurd (omega arith), λ e. absurd (omega arith), λ e. absurd (omega arith), λ e. absurd (omega arith), λ e. absurd (omega arith))
+these_keep RunsOut = (λ e. absurd (omega arith), λ e. absurd (omega arith), λ e. absurd (omega arith), λ e. absurd (omega arith), λ e. absurd (omega arith))
 
-other-counts : (r : Refusal) → number r ≢ 1 → number r ≢ 2 → number r ≢ 3 → number r ≢ 5 → number r ≢ 8 → number r ≢ 16 → counted r ≡ true
-other-counts BadState a b c d e f = absurd (a refl)
-other-counts ImageLength a b c d e f = absurd (b refl)
-other-counts BufferLength a b c d e f = absurd (c refl)
-other-counts Malformed a b c d e f = refl
-other-counts OtherApid a b c d e f = absurd (d refl)
-other-counts UnknownCode a b c d e f = refl
-other-counts PacketLength a b c d e f = refl
-other-counts OtherUnit a b c d e f = absurd (e refl)
-other-counts BadField a b c d e f = refl
-other-counts OutsideRegions a b c d e f = refl
-other-counts NoRight a b c d e f = refl
-other-counts TransactionBusy a b c d e f = refl
-other-counts PlacesBusy a b c d e f = refl
-other-counts NotBusy a b c d e f = refl
-other-counts PoolDamaged a b c d e f = refl
-other-counts NothingToSend a b c d e f = absurd (f refl)
-other-counts BadTable a b c d e f = refl
-other-counts UnknownSymbol a b c d e f = refl
-other-counts RunsOut a b c d e f = refl
+other_counts : (r : Refusal) → number r ≢ 1 → number r ≢ 2 → number r ≢ 3 → number r ≢ 5 → number r ≢ 8 → number r ≢ 16 → counted r ≡ true
+other_counts BadState a b c d e f = absurd (a refl)
+other_counts ImageLength a b c d e f = absurd (b refl)
+other_counts BufferLength a b c d e f = absurd (c refl)
+other_counts Malformed a b c d e f = refl
+other_counts OtherApid a b c d e f = absurd (d refl)
+other_counts UnknownCode a b c d e f = refl
+other_counts PacketLength a b c d e f = refl
+other_counts OtherUnit a b c d e f = absurd (e refl)
+other_counts BadField a b c d e f = refl
+other_counts OutsideRegions a b c d e f = refl
+other_counts NoRight a b c d e f = refl
+other_counts TransactionBusy a b c d e f = refl
+other_counts PlacesBusy a b c d e f = refl
+other_counts NotBusy a b c d e f = refl
+other_counts PoolDamaged a b c d e f = refl
+other_counts NothingToSend a b c d e f = absurd (f refl)
+other_counts BadTable a b c d e f = refl
+other_counts UnknownSymbol a b c d e f = refl
+other_counts RunsOut a b c d e f = refl
 
 no_number : {A : Type 0} {n k : ℕ} → n ≡ 0 → n ≡ suc k → A
 no_number z e = absurd (omega arith)
@@ -100,248 +100,248 @@ no_number z e = absurd (omega arith)
 
 -- what a command call leaves that is not refused
 record CarriedOut (s : State) (c : CommandArgs) (o : Outcome) : Type 0 where
-  done : answerNumber o.answer ≡ 0
-  accepted : o.state.accepted ≡ acceptedMore s
+  done : answer_number o.answer ≡ 0
+  accepted : o.state.accepted ≡ accepted_more s
   refused : o.state.refused ≡ s.refused
   image : length o.image ≡ length c.image
   buffer : length o.buffer ≡ length c.reply
 
-module _ (s : State) (c : CommandArgs) (passed : lowest (commandRows s c) ≡ Accepted) where
-  image-length : length c.image ≡ imageLength s.regions s.count
-  unfolding commandRows lentRows
-  image-length = eqb-true _ _ (not-false _ (test-passed (commandRows s c) passed 2))
+module _ (s : State) (c : CommandArgs) (passed : lowest (command_rows s c) ≡ Accepted) where
+  image_length_lem : length c.image ≡ image_length s.regions s.count
+  unfolding command_rows lent_rows
+  image_length_lem = eqb-true _ _ (not-false _ (test_passed (command_rows s c) passed 2))
 
-  reply-room : replyLength ≤ length c.reply
-  unfolding commandRows lentRows
-  reply-room = ltb-false _ _ (test-passed (commandRows s c) passed 3)
+  reply_room : reply_length ≤ length c.reply
+  unfolding command_rows lent_rows
+  reply_room = ltb-false _ _ (test_passed (command_rows s c) passed 3)
 
-  replied-out : (i : ℕ) (w : Walk) → isDamaged w ≡ false → CarriedOut s c (replied s c i w)
-  replied-out i damaged h = absurd (contra refl h)
-  replied-out i (whole bs) h =
-      record { done = refl; accepted = refl; refused = refl; image = refl; buffer = reply-keeps-length _ _ _ _ _ c.reply reply-room }
+  replied_out : (i : ℕ) (w : Walk) → is_damaged w ≡ false → CarriedOut s c (replied s c i w)
+  replied_out i damaged h = absurd (contra refl h)
+  replied_out i (whole bs) h =
+      record { done = refl; accepted = refl; refused = refl; image = refl; buffer = reply_keeps_length _ _ _ _ _ c.reply reply_room }
 
   -- the reply that tells a value is shorter than the room that every command must have
-  told-length : (v : ℕ) → length (told s c v).buffer ≡ length c.reply
-  told-length v =
-      let e : length (valueBytes s.values s.unit (commandTransaction c.packet) v) ≡ valueLength = unfold valueBytes in refl in
-      let l = reply-room in
-      splice-length c.reply 0 (valueBytes s.values s.unit (commandTransaction c.packet) v) (omega arith)
+  told_length : (v : ℕ) → length (told s c v).buffer ≡ length c.reply
+  told_length v =
+      let e : length (value_bytes s.values s.unit (command_transaction c.packet) v) ≡ value_length = unfold value_bytes in refl in
+      let l = reply_room in
+      splice_length c.reply 0 (value_bytes s.values s.unit (command_transaction c.packet) v) (omega arith)
 
-  carried-out : (d : Decoded) → Tested s c d → CarriedOut s c (carryOut s c (task_of c.symbols (nameIn c.packet) d))
-  carried-out Unknown t = absurd (contra refl t.laid.known)
-  carried-out (Known (Dump q)) t = record { done = refl; accepted = refl; refused = refl; image = refl; buffer = refl }
-  carried-out (Known Cancel) t = record { done = refl; accepted = refl; refused = refl; image = refl; buffer = refl }
-  carried-out (Known (Load q)) t =
+  carried_out_lem : (d : Decoded) → Tested s c d → CarriedOut s c (carry_out s c (task_of c.symbols (name_in c.packet) d))
+  carried_out_lem Unknown t = absurd (contra refl t.laid.known)
+  carried_out_lem (Known (Dump q)) t = record { done = refl; accepted = refl; refused = refl; image = refl; buffer = refl }
+  carried_out_lem (Known Cancel) t = record { done = refl; accepted = refl; refused = refl; image = refl; buffer = refl }
+  carried_out_lem (Known (Load q)) t =
       record {
         done = refl;
         accepted = refl;
         refused = refl;
-        image = load-keeps-length s.regions s.count q c.packet c.image (whole-passed _ _ _ t.inside t.whole) image-length;
+        image = load_keeps_length s.regions s.count q c.packet c.image (whole_passed _ _ _ t.inside t.whole) image_length_lem;
         buffer = refl;
       }
-  carried-out (Known (PoolStatistics i)) t = replied-out i (blocksOf (poolWords s i c.image)) t.blocks
-  carried-out (Known (SymbolValue n)) t =
-      record { done = refl; accepted = refl; refused = refl; image = refl; buffer = told-length (value_of c.symbols (nameIn c.packet)) }
-  carried-out (Known (DumpSymbol q)) t = record { done = refl; accepted = refl; refused = refl; image = refl; buffer = refl }
+  carried_out_lem (Known (PoolStatistics i)) t = replied_out i (blocks_of (pool_words s i c.image)) t.blocks
+  carried_out_lem (Known (SymbolValue n)) t =
+      record { done = refl; accepted = refl; refused = refl; image = refl; buffer = told_length (value_of c.symbols (name_in c.packet)) }
+  carried_out_lem (Known (DumpSymbol q)) t = record { done = refl; accepted = refl; refused = refl; image = refl; buffer = refl }
 
 -- A COMMAND THAT NAMES NO SYMBOL
 
 -- its second 9 never applies, and its task is the same whatever symbol table is lent
 module _ (symbols name : List ℕ) where
-  no-range : (d : Decoded) → namesSymbol d ≡ false → wrongRange symbols name d ≡ false
-  no-range Unknown n = refl
-  no-range (Known (Dump q)) n = refl
-  no-range (Known Cancel) n = refl
-  no-range (Known (Load q)) n = refl
-  no-range (Known (PoolStatistics i)) n = refl
-  no-range (Known (SymbolValue i)) n = refl
-  no-range (Known (DumpSymbol q)) n = absurd (contra refl n)
+  no_range_lem : (d : Decoded) → names_symbol d ≡ false → wrong_range symbols name d ≡ false
+  no_range_lem Unknown n = refl
+  no_range_lem (Known (Dump q)) n = refl
+  no_range_lem (Known Cancel) n = refl
+  no_range_lem (Known (Load q)) n = refl
+  no_range_lem (Known (PoolStatistics i)) n = refl
+  no_range_lem (Known (SymbolValue i)) n = refl
+  no_range_lem (Known (DumpSymbol q)) n = absurd (contra refl n)
 
-  same-task : (others : List ℕ) (d : Decoded) → namesSymbol d ≡ false → task_of others name d ≡ task_of symbols name d
-  same-task others Unknown n = refl
-  same-task others (Known (Dump q)) n = refl
-  same-task others (Known Cancel) n = refl
-  same-task others (Known (Load q)) n = refl
-  same-task others (Known (PoolStatistics i)) n = refl
-  same-task others (Known (SymbolValue i)) n = absurd (contra refl n)
-  same-task others (Known (DumpSymbol q)) n = absurd (contra refl n)
+  same_task : (others : List ℕ) (d : Decoded) → names_symbol d ≡ false → task_of others name d ≡ task_of symbols name d
+  same_task others Unknown n = refl
+  same_task others (Known (Dump q)) n = refl
+  same_task others (Known Cancel) n = refl
+  same_task others (Known (Load q)) n = refl
+  same_task others (Known (PoolStatistics i)) n = refl
+  same_task others (Known (SymbolValue i)) n = absurd (contra refl n)
+  same_task others (Known (DumpSymbol q)) n = absurd (contra refl n)
 
 -- no two numbers are alike in the order of the command call's
-ten-apart : (i j : ℕ) → afterTen i ≡ afterTen j → i ≡ j
-ten-apart i j e =
+ten_apart : (i j : ℕ) → after_ten i ≡ after_ten j → i ≡ j
+ten_apart i j e =
     either (eqb i 19)
     (λ a. either (eqb j 19) (λ b. eqb-true i 19 a ∙ sym (eqb-true j 19 b)) (λ b. let q : 21 ≡ 2 * j = rw (a, b) at e in absurd (omega arith)))
     (λ a. either (eqb j 19) (λ b. let q : 2 * i ≡ 21 = rw (a, b) at e in absurd (omega arith)) (λ b. let q : 2 * i ≡ 2 * j = rw (a, b) at e in omega arith))
 
 -- what a task does looks at no symbol table
-abbrev lentOther : CommandArgs → List ℕ → CommandArgs
-lentOther c others = record { packet = c.packet; symbols = others; image = c.image; reply = c.reply }
+abbrev lent_other : CommandArgs → List ℕ → CommandArgs
+lent_other c others = record { packet = c.packet; symbols = others; image = c.image; reply = c.reply }
 
 module _ (s : State) (c : CommandArgs) (others : List ℕ) where
-  same-reply : (i : ℕ) (w : Walk) → replied s (lentOther c others) i w ≡ replied s c i w
-  same-reply i damaged = refl
-  same-reply i (whole bs) = refl
+  same_reply : (i : ℕ) (w : Walk) → replied s (lent_other c others) i w ≡ replied s c i w
+  same_reply i damaged = refl
+  same_reply i (whole bs) = refl
 
-  same_outcome : (t : Task) → carryOut s (lentOther c others) t ≡ carryOut s c t
+  same_outcome : (t : Task) → carry_out s (lent_other c others) t ≡ carry_out s c t
   same_outcome Nothing = refl
   same_outcome (DumpRange r) = refl
   same_outcome CancelDump = refl
   same_outcome (LoadRange r) = refl
-  same_outcome (CountPool i) = same-reply i (blocksOf (poolWords s i c.image))
+  same_outcome (CountPool i) = same_reply i (blocks_of (pool_words s i c.image))
   same_outcome (TellValue v) = refl
 
-module _ (s : State) (c : CommandArgs) (none : namesSymbol (decode c.packet) ≡ false) where
+module _ (s : State) (c : CommandArgs) (none : names_symbol (decode c.packet) ≡ false) where
   -- rows 17 and 18 and the second 9 do not apply, and the others ascend
-  command-lowest : LowestBy afterTen (commandRows s c) (verdictNumber (lowest (commandRows s c)))
-  unfolding commandRows lentRows
-  command-lowest =
-      let rows : List Row = commandRows s c in
-      lowest-without 11 rows (no-range c.symbols (nameIn c.packet) (decode c.packet) none)
-      (lowest-without 10 (without 11 rows) (rw none)
-      (lowest-without 8 (without 10 (without 11 rows)) (rw none) (lowest-number afterTen ten-apart (without 8 (without 10 (without 11 rows))) refl _ refl)))
+  command_lowest : LowestBy after_ten (command_rows s c) (verdict_number (lowest (command_rows s c)))
+  unfolding command_rows lent_rows
+  command_lowest =
+      let rows : List Row = command_rows s c in
+      lowest_without 11 rows (no_range_lem c.symbols (name_in c.packet) (decode c.packet) none)
+      (lowest_without 10 (without 11 rows) (rw none)
+      (lowest_without 8 (without 10 (without 11 rows)) (rw none) (lowest_number after_ten ten_apart (without 8 (without 10 (without 11 rows))) refl _ refl)))
 
-  other-task : (others : List ℕ) → task (lentOther c others) ≡ task c
+  other_task : (others : List ℕ) → task (lent_other c others) ≡ task c
   unfolding task
-  other-task others = same-task c.symbols (nameIn c.packet) others (decode c.packet) none
+  other_task others = same_task c.symbols (name_in c.packet) others (decode c.packet) none
 
-  other-rows : (others : List ℕ) → commandRows s (lentOther c others) ≡ commandRows s c
-  unfolding commandRows lentRows
-  other-rows others =
-      let r : (symbols : List ℕ) → wrongRange symbols (nameIn c.packet) (decode c.packet) ≡ false =
-      λ symbols. no-range symbols (nameIn c.packet) (decode c.packet) none in
-      rw (none, r c.symbols, r others, other-task others)
+  other_rows : (others : List ℕ) → command_rows s (lent_other c others) ≡ command_rows s c
+  unfolding command_rows lent_rows
+  other_rows others =
+      let r : (symbols : List ℕ) → wrong_range symbols (name_in c.packet) (decode c.packet) ≡ false =
+      λ symbols. no_range_lem symbols (name_in c.packet) (decode c.packet) none in
+      rw (none, r c.symbols, r others, other_task others)
 
-  other-outcome : (others : List ℕ) (v : Verdict) → conclude s (lentOther c others) v ≡ conclude s c v
-  other-outcome others Accepted = rw (other-task others) (same_outcome s c others (task c))
-  other-outcome others (Rejected r) = refl
+  other_outcome : (others : List ℕ) (v : Verdict) → conclude s (lent_other c others) v ≡ conclude s c v
+  other_outcome others Accepted = rw (other_task others) (same_outcome s c others (task c))
+  other_outcome others (Rejected r) = refl
 
-  other-call : (others : List ℕ) → commandCall s (lentOther c others) ≡ commandCall s c
-  unfolding commandCall
-  other-call others = rw (other-rows others) (other-outcome others (lowest (commandRows s c)))
+  other_call : (others : List ℕ) → command_call s (lent_other c others) ≡ command_call s c
+  unfolding command_call
+  other_call others = rw (other_rows others) (other_outcome others (lowest (command_rows s c)))
 
 -- THE COMMAND CALL'S STATEMENT
 
 module _ (s : State) (c : CommandArgs) where
-  command-accepted : lowest (commandRows s c) ≡ Accepted → (o : Outcome) → commandCall s c ≡ o → CarriedOut s c o → CommandRefusals s c o
-  unfolding commandRows lentRows
-  command-accepted e o call is =
+  command_accepted : lowest (command_rows s c) ≡ Accepted → (o : Outcome) → command_call s c ≡ o → CarriedOut s c o → CommandRefusals s c o
+  unfolding command_rows lent_rows
+  command_accepted e o call is =
       record {
         numbers = refl;
-        cases = command-cases s c;
-        first = rw is.done (first-number (commandRows s c) Accepted e);
-        lowest = λ v n. rw is.done (rw e at (command-lowest s c (names-none c.packet v n)));
+        cases = command_cases s c;
+        first = rw is.done (first_number (command_rows s c) Accepted e);
+        lowest = λ v n. rw is.done (rw e at (command_lowest s c (names_none c.packet v n)));
         kept = λ n. absurd (n is.done);
-        handed-in = (no_number is.done, no_number is.done, no_number is.done, no_number is.done, no_number is.done);
+        handed_in = (no_number is.done, no_number is.done, no_number is.done, no_number is.done, no_number is.done);
         one_more = λ z. absurd (z is.done);
         accepted = λ z. (is.accepted, is.refused);
-        no_symbol = λ v n others. other-call s c (names-none c.packet v n) others ∙ call;
+        no_symbol = λ v n others. other_call s c (names_none c.packet v n) others ∙ call;
         lent = (is.image, is.buffer);
       }
 
-  command-refused : (r : Refusal) → lowest (commandRows s c) ≡ Rejected r → commandCall s c ≡ refusedCommand s c r
-      → CommandRefusals s c (refusedCommand s c r)
-  unfolding commandRows lentRows
-  command-refused r e call =
+  command_refused : (r : Refusal) → lowest (command_rows s c) ≡ Rejected r → command_call s c ≡ refused_command s c r
+      → CommandRefusals s c (refused_command s c r)
+  unfolding command_rows lent_rows
+  command_refused r e call =
       record {
         numbers = refl;
-        cases = command-cases s c;
-        first = first-number (commandRows s c) (Rejected r) e;
-        lowest = λ v n. rw e at (command-lowest s c (names-none c.packet v n));
+        cases = command_cases s c;
+        first = first_number (command_rows s c) (Rejected r) e;
+        lowest = λ v n. rw e at (command_lowest s c (names_none c.packet v n));
         kept = λ n. (refl, refl, refl);
-        handed-in = let k = these-keep r in
+        handed_in = let k = these_keep r in
             (λ e. rw (k.0 e), λ e. rw (k.1 e), λ e. rw (k.2 e), λ e. rw (k.3 e), λ e. rw (k.4 e));
-        one_more = λ z a b c d e f. rw (other-counts r a b c d e f);
-        accepted = λ z. let n = number-some r in absurd (omega arith);
-        no_symbol = λ v n others. other-call s c (names-none c.packet v n) others ∙ call;
+        one_more = λ z a b c d e f. rw (other_counts r a b c d e f);
+        accepted = λ z. let n = number_some r in absurd (omega arith);
+        no_symbol = λ v n others. other_call s c (names_none c.packet v n) others ∙ call;
         lent = (refl, refl);
       }
 
-  command-concluded : (v : Verdict) → lowest (commandRows s c) ≡ v → commandCall s c ≡ conclude s c v → CommandRefusals s c (conclude s c v)
+  command_concluded : (v : Verdict) → lowest (command_rows s c) ≡ v → command_call s c ≡ conclude s c v → CommandRefusals s c (conclude s c v)
   unfolding task
-  command-concluded Accepted e call =
-      command-accepted e (carryOut s c (task c)) call (carried-out s c e (decode c.packet) (tests-passed s c e))
-  command-concluded (Rejected r) e call = command-refused r e call
+  command_concluded Accepted e call =
+      command_accepted e (carry_out s c (task c)) call (carried_out_lem s c e (decode c.packet) (tests_passed s c e))
+  command_concluded (Rejected r) e call = command_refused r e call
 
-  command-refusals : CommandRefusals s c (commandCall s c)
-  unfolding commandCall
-  command-refusals = command-concluded (lowest (commandRows s c)) refl refl
+  command_refusals : CommandRefusals s c (command_call s c)
+  unfolding command_call
+  command_refusals = command_concluded (lowest (command_rows s c)) refl refl
 
 -- THE SLOT CALL
 
 module _ (s : State) (c : SlotArgs) where
-  slot-lowest : (v : Verdict) → lowest (slotRows s c) ≡ v → Lowest (slotRows s c) (verdictNumber v)
-  unfolding slotRows lentRows
-  slot-lowest = lowest-number (λ i. i) (λ i j e. e) (slotRows s c) refl
+  slot_lowest : (v : Verdict) → lowest (slot_rows s c) ≡ v → Lowest (slot_rows s c) (verdict_number v)
+  unfolding slot_rows lent_rows
+  slot_lowest = lowest_number (λ i. i) (λ i j e. e) (slot_rows s c) refl
 
   -- where no row applies the next place is busy
-  next-is-busy : lowest (slotRows s c) ≡ Accepted → isBusy (contextAt s.places (nextPlace s.places s.last)) ≡ true
-  unfolding slotRows lentRows
-  next-is-busy e =
-      let g : goodState s ≡ true = not-false _ (test-passed (slotRows s c) e 1) in
-      let b : anyBusy s.places ≡ true = not-false _ (test-passed (slotRows s c) e 16) in
-      next-busy s.places s.last (good-out s g).last b
+  next_is_busy : lowest (slot_rows s c) ≡ Accepted → is_busy (context_at s.places (next_place s.places s.last)) ≡ true
+  unfolding slot_rows lent_rows
+  next_is_busy e =
+      let g : good_state s ≡ true = not-false _ (test_passed (slot_rows s c) e 1) in
+      let b : any_busy s.places ≡ true = not-false _ (test_passed (slot_rows s c) e 16) in
+      next_busy s.places s.last (good_out s g).last b
 
-  packet-room : lowest (slotRows s c) ≡ Accepted → longestPacket ≤ length c.buffer
-  unfolding slotRows lentRows
-  packet-room e = ltb-false _ _ (test-passed (slotRows s c) e 3)
+  packet_room : lowest (slot_rows s c) ≡ Accepted → longest_packet ≤ length c.buffer
+  unfolding slot_rows lent_rows
+  packet_room e = ltb-false _ _ (test_passed (slot_rows s c) e 3)
 
-  slot-refused : (r : Refusal) → lowest (slotRows s c) ≡ Rejected r → SlotRefusals s c (refusedSlot s c r)
-  unfolding slotRows lentRows
-  slot-refused r e =
+  slot_refused : (r : Refusal) → lowest (slot_rows s c) ≡ Rejected r → SlotRefusals s c (refused_slot s c r)
+  unfolding slot_rows lent_rows
+  slot_refused r e =
       record {
         numbers = refl;
         cases = slot_cases s c;
-        lowest = slot-lowest (Rejected r) e;
+        lowest = slot_lowest (Rejected r) e;
         kept = λ n. (refl, refl, refl);
         image = refl;
         counts = (refl, refl);
         lent = refl;
       }
 
-  slot-served : lowest (slotRows s c) ≡ Accepted → (p : ℕ) (a : Context) → isBusy a ≡ true → SlotRefusals s c (serve s c p a)
-  unfolding slotRows lentRows
-  slot-served e p Idle b = absurd (contra b refl)
-  slot-served e p (Busy d) b =
+  slot_served : lowest (slot_rows s c) ≡ Accepted → (p : ℕ) (a : Context) → is_busy a ≡ true → SlotRefusals s c (serve s c p a)
+  unfolding slot_rows lent_rows
+  slot_served e p Idle b = absurd (contra b refl)
+  slot_served e p (Busy d) b =
       record {
         numbers = refl;
         cases = slot_cases s c;
-        lowest = slot-lowest Accepted e;
+        lowest = slot_lowest Accepted e;
         kept = λ n. absurd (n refl);
         image = refl;
         counts = (refl, refl);
-        lent = packet-keeps-length s c.tick d c.image c.buffer (packet-room e);
+        lent = packet_keeps_length s c.tick d c.image c.buffer (packet_room e);
       }
 
-  slot-concluded : (v : Verdict) → lowest (slotRows s c) ≡ v → SlotRefusals s c (concludeSlot s c v)
-  slot-concluded Accepted e = slot-served e (nextPlace s.places s.last) (contextAt s.places (nextPlace s.places s.last)) (next-is-busy e)
-  slot-concluded (Rejected r) e = slot-refused r e
+  slot_concluded : (v : Verdict) → lowest (slot_rows s c) ≡ v → SlotRefusals s c (conclude_slot s c v)
+  slot_concluded Accepted e = slot_served e (next_place s.places s.last) (context_at s.places (next_place s.places s.last)) (next_is_busy e)
+  slot_concluded (Rejected r) e = slot_refused r e
 
-  slot-refusals : SlotRefusals s c (slotCall s c)
-  unfolding slotCall
-  slot-refusals = slot-concluded (lowest (slotRows s c)) refl
+  slot_refusals : SlotRefusals s c (slot_call s c)
+  unfolding slot_call
+  slot_refusals = slot_concluded (lowest (slot_rows s c)) refl
 
 -- START-UP
 
 -- the state that start-up gives with 17 is not good
-no-command-accepted : (c : CommandArgs) → answerNumber (commandCall noState c).answer ≡ 1
-unfolding commandCall commandRows lentRows lowest goodState startRules tableRules
-no-command-accepted c = refl
+no_command_accepted : (c : CommandArgs) → answer_number (command_call no_state c).answer ≡ 1
+unfolding command_call command_rows lent_rows lowest good_state start_rules table_rules
+no_command_accepted c = refl
 
-no-slot-served : (c : SlotArgs) → answerNumber (slotCall noState c).answer ≡ 1
-unfolding slotCall slotRows lentRows lowest goodState startRules tableRules
-no-slot-served c = refl
+no_slot_served : (c : SlotArgs) → answer_number (slot_call no_state c).answer ≡ 1
+unfolding slot_call slot_rows lent_rows lowest good_state start_rules table_rules
+no_slot_served c = refl
 
-start-refusals : (rs : List Region) (n : ℕ) (pools : List Range) (unit : ℕ) → StartRefusals rs n pools unit
-unfolding startUp entriesUsed
-start-refusals rs n pools unit =
-    either (startRules rs n pools unit)
+start_refusals : (rs : List Region) (n : ℕ) (pools : List Range) (unit : ℕ) → StartRefusals rs n pools unit
+unfolding start_up entries_used
+start_refusals rs n pools unit =
+    either (start_rules rs n pools unit)
     (λ e.
     record {
       only = inl (rw e);
       ready = rw e (λ z. refl, λ z. refl);
       refused = rw e (λ z. absurd (omega arith), λ z. absurd (contra refl z));
       nothing = rw e (λ z. absurd (omega arith));
-      no-command = λ c. rw e (λ z. absurd (omega arith));
+      no_command = λ c. rw e (λ z. absurd (omega arith));
       no_slot = λ c. rw e (λ z. absurd (omega arith));
       fresh = rw e (λ z. refl);
     })
@@ -351,94 +351,94 @@ start-refusals rs n pools unit =
       ready = rw e (λ z. absurd (omega arith), λ z. absurd (contra z refl));
       refused = rw e (λ z. refl, λ z. refl);
       nothing = rw e (λ z. refl);
-      no-command = λ c. rw e (λ z. no-command-accepted c);
-      no_slot = λ c. rw e (λ z. no-slot-served c);
+      no_command = λ c. rw e (λ z. no_command_accepted c);
+      no_slot = λ c. rw e (λ z. no_slot_served c);
       fresh = rw e (λ z. absurd (omega arith));
     })
 
 -- THE GROUND
 
 module _ (h : Header) (k : Command) (ws buffer : List ℕ) where
-  writer-number : (v : Verdict) → answerNumber (concludeWrite h k ws buffer v).answer ≡ verdictNumber v
-  writer-number Accepted = refl
-  writer-number (Rejected r) = refl
+  writer_number : (v : Verdict) → answer_number (conclude_write h k ws buffer v).answer ≡ verdict_number v
+  writer_number Accepted = refl
+  writer_number (Rejected r) = refl
 
-  writer-lowest : Lowest (writerRows h k buffer) (answerNumber (writeCommand h k ws buffer).answer)
-  unfolding writeCommand
-  writer-lowest = rw (writer-number (lowest (writerRows h k buffer))) (lowest-number (λ i. i) (λ i j e. e) (writerRows h k buffer) (unfold writerRows in refl) _ refl)
+  writer_lowest : Lowest (writer_rows h k buffer) (answer_number (write_command h k ws buffer).answer)
+  unfolding write_command
+  writer_lowest = rw (writer_number (lowest (writer_rows h k buffer))) (lowest_number (λ i. i) (λ i j e. e) (writer_rows h k buffer) (unfold writer_rows in refl) _ refl)
 
-  writer-keeps : (v : Verdict) → answerNumber (concludeWrite h k ws buffer v).answer ≢ 0
-      → ((concludeWrite h k ws buffer v).buffer ≡ buffer) × (answerLength (concludeWrite h k ws buffer v).answer ≡ 0)
-  writer-keeps Accepted n = absurd (n refl)
-  writer-keeps (Rejected r) n = (refl, refl)
+  writer_keeps : (v : Verdict) → answer_number (conclude_write h k ws buffer v).answer ≢ 0
+      → ((conclude_write h k ws buffer v).buffer ≡ buffer) × (answer_length (conclude_write h k ws buffer v).answer ≡ 0)
+  writer_keeps Accepted n = absurd (n refl)
+  writer_keeps (Rejected r) n = (refl, refl)
 
-  writer-stays : (v : Verdict) → drop (bytes_of k) (concludeWrite h k ws buffer v).buffer ≡ drop (bytes_of k) buffer
-  writer-stays Accepted =
-      let e : length (commandBytes h k ws) ≡ bytes_of k = command-length h k ws ∙ length-of k in
-      rw e at (splice-rest buffer (commandBytes h k ws))
-  writer-stays (Rejected r) = refl
+  writer_stays : (v : Verdict) → drop (bytes_of k) (conclude_write h k ws buffer v).buffer ≡ drop (bytes_of k) buffer
+  writer_stays Accepted =
+      let e : length (command_bytes h k ws) ≡ bytes_of k = command_length h k ws ∙ length_of k in
+      rw e at (splice_rest buffer (command_bytes h k ws))
+  writer_stays (Rejected r) = refl
 
-  writer-length : (v : Verdict) → lowest (writerRows h k buffer) ≡ v → length (concludeWrite h k ws buffer v).buffer ≡ length buffer
-  unfolding writerRows
-  writer-length Accepted e = command-keeps-length h k ws buffer (ltb-false _ _ (test-passed (writerRows h k buffer) e 3))
-  writer-length (Rejected r) e = refl
+  writer_length : (v : Verdict) → lowest (writer_rows h k buffer) ≡ v → length (conclude_write h k ws buffer v).buffer ≡ length buffer
+  unfolding writer_rows
+  writer_length Accepted e = command_keeps_length h k ws buffer (ltb-false _ _ (test_passed (writer_rows h k buffer) e 3))
+  writer_length (Rejected r) e = refl
 
 module _ (p : List ℕ) where
-  fields-number : (k : Decoded) → isUnknown k ≡ false → readingNumber (fieldsRead p k).reading ≡ 0
-  fields-number Unknown e = absurd (contra refl e)
-  fields-number (Known k) e = refl
+  fields_number : (k : Decoded) → is_unknown k ≡ false → reading_number (fields_read p k).reading ≡ 0
+  fields_number Unknown e = absurd (contra refl e)
+  fields_number (Known k) e = refl
 
-  reader-number : (v : Verdict) → lowest (readerRows p) ≡ v → readingNumber (concludeRead p v).reading ≡ verdictNumber v
-  unfolding readerRows
-  reader-number Accepted e = fields-number (decode p) (test-passed (readerRows p) e 6)
-  reader-number (Rejected r) e = refl
+  reader_number : (v : Verdict) → lowest (reader_rows p) ≡ v → reading_number (conclude_read p v).reading ≡ verdict_number v
+  unfolding reader_rows
+  reader_number Accepted e = fields_number (decode p) (test_passed (reader_rows p) e 6)
+  reader_number (Rejected r) e = refl
 
-  reader-lowest : Lowest (readerRows p) (readingNumber (readCommand p).reading)
-  unfolding readCommand
-  reader-lowest = rw (reader-number (lowest (readerRows p)) refl) (lowest-number (λ i. i) (λ i j e. e) (readerRows p) (unfold readerRows in refl) _ refl)
+  reader_lowest : Lowest (reader_rows p) (reading_number (read_command p).reading)
+  unfolding read_command
+  reader_lowest = rw (reader_number (lowest (reader_rows p)) refl) (lowest_number (λ i. i) (λ i j e. e) (reader_rows p) (unfold reader_rows in refl) _ refl)
 
-  reader-keeps : (v : Verdict) → lowest (readerRows p) ≡ v → readingNumber (concludeRead p v).reading ≢ 0 → (concludeRead p v).words ≡ noWords
-  reader-keeps Accepted e n = absurd (n (reader-number Accepted e))
-  reader-keeps (Rejected r) e n = refl
+  reader_keeps : (v : Verdict) → lowest (reader_rows p) ≡ v → reading_number (conclude_read p v).reading ≢ 0 → (conclude_read p v).words ≡ no_words
+  reader_keeps Accepted e n = absurd (n (reader_number Accepted e))
+  reader_keeps (Rejected r) e n = refl
 
-  packet-number : (v : Verdict) → packetNumber (concludePacket p v).reading ≡ verdictNumber v
-  packet-number Accepted = refl
-  packet-number (Rejected r) = refl
+  packet_number_lem : (v : Verdict) → packet_number (conclude_packet p v).reading ≡ verdict_number v
+  packet_number_lem Accepted = refl
+  packet_number_lem (Rejected r) = refl
 
-  packet-lowest : Lowest (packetRows p) (packetNumber (readPacket p).reading)
-  unfolding readPacket
-  packet-lowest = rw (packet-number (lowest (packetRows p))) (lowest-number (λ i. i) (λ i j e. e) (packetRows p) (unfold packetRows in refl) _ refl)
+  packet_lowest : Lowest (packet_rows p) (packet_number (read_packet p).reading)
+  unfolding read_packet
+  packet_lowest = rw (packet_number_lem (lowest (packet_rows p))) (lowest_number (λ i. i) (λ i j e. e) (packet_rows p) (unfold packet_rows in refl) _ refl)
 
-  packet-keeps : (v : Verdict) → packetNumber (concludePacket p v).reading ≢ 0 → (concludePacket p v).part ≡ []
-  packet-keeps Accepted n = absurd (n refl)
-  packet-keeps (Rejected r) n = refl
+  packet_keeps : (v : Verdict) → packet_number (conclude_packet p v).reading ≢ 0 → (conclude_packet p v).part ≡ []
+  packet_keeps Accepted n = absurd (n refl)
+  packet_keeps (Rejected r) n = refl
 
-ground-refusals : (h : Header) (k : Command) (ws buffer p : List ℕ) → GroundRefusals h k ws buffer p
-unfolding writerRows writeCommand readerRows readCommand packetRows readPacket
-ground-refusals h k ws buffer p =
+ground_refusals : (h : Header) (k : Command) (ws buffer p : List ℕ) → GroundRefusals h k ws buffer p
+unfolding writer_rows write_command reader_rows read_command packet_rows read_packet
+ground_refusals h k ws buffer p =
     record {
-      writer-numbers = refl;
-      writer-cases = writer-cases h k buffer;
-      writer = writer-lowest h k ws buffer;
-      writer-kept = writer-keeps h k ws buffer (lowest (writerRows h k buffer));
-      writer-lent = writer-length h k ws buffer (lowest (writerRows h k buffer)) refl;
-      writer-rest = writer-stays h k ws buffer (lowest (writerRows h k buffer));
-      reader-numbers = refl;
-      reader-cases = reader-cases p;
-      reader = reader-lowest p;
-      reader-empty = reader-keeps p (lowest (readerRows p)) refl;
-      packet-numbers = refl;
-      packet-cases = packet-cases p;
-      packet = packet-lowest p;
-      packet-empty = packet-keeps p (lowest (packetRows p));
+      writer_numbers = refl;
+      writer_cases = writer_cases h k buffer;
+      writer = writer_lowest h k ws buffer;
+      writer_kept = writer_keeps h k ws buffer (lowest (writer_rows h k buffer));
+      writer_lent = writer_length h k ws buffer (lowest (writer_rows h k buffer)) refl;
+      writer_rest = writer_stays h k ws buffer (lowest (writer_rows h k buffer));
+      reader_numbers = refl;
+      reader_cases = reader_cases p;
+      reader = reader_lowest p;
+      reader_empty = reader_keeps p (lowest (reader_rows p)) refl;
+      packet_numbers_lem = refl;
+      packet_cases = packet_cases p;
+      packet = packet_lowest p;
+      packet_empty = packet_keeps p (lowest (packet_rows p));
     }
 
-pub demand-1 : Demand1
-demand-1 =
+pub demand_1 : Demand1
+demand_1 =
     record {
-      command = command-refusals;
-      slot = slot-refusals;
-      start = start-refusals;
-      answers = answer-numbers;
-      ground = ground-refusals;
+      command = command_refusals;
+      slot = slot_refusals;
+      start = start_refusals;
+      answers = answer_numbers;
+      ground = ground_refusals;
     }

@@ -6,28 +6,28 @@ use Prim.Native.Nat.{ℕ, ◌<◌}
 use lib.Bits.{bit_xor, xor_comm, xor_zero_l, xor_zero_r, xor_self}
 use lib.ListN.{length, get_or, set}
 use lib.Seq.{set-set, set-get_or}
-use Rattle.wire.specs.Xor.{xorAll}
-use Rattle.wire.proofs.Xor.{xor_assoc, xor-twice, xor-set}
+use Rattle.wire.specs.Xor.{xor_all}
+use Rattle.wire.proofs.Xor.{xor_assoc, xor_twice, xor_set}
 use Rattle.rules.specs.Packets.{sealed}
 
 module _ (p : List ℕ) (long : 7 < length p) where
-  pub sealed-check : get_or p 7 0 ≡ 0 → xorAll (sealed p) ≡ 255
+  pub sealed_check : get_or p 7 0 ≡ 0 → xor_all (sealed p) ≡ 255
   unfolding sealed
-  sealed-check z =
-      xor-set p 7 (bit_xor (xorAll p) 255) long
-      ∙ ap (λ (x : ℕ). bit_xor (bit_xor (xorAll p) 255) (bit_xor x (xorAll p))) z
-      ∙ xor_comm (bit_xor (xorAll p) 255) (xorAll p)
-      ∙ xor-twice (xorAll p) 255
+  sealed_check z =
+      xor_set p 7 (bit_xor (xor_all p) 255) long
+      ∙ ap (λ (x : ℕ). bit_xor (bit_xor (xor_all p) 255) (bit_xor x (xor_all p))) z
+      ∙ xor_comm (bit_xor (xor_all p) 255) (xor_all p)
+      ∙ xor_twice (xor_all p) 255
 
   -- the check byte that sealing finds for a packet with 0 in its place
-  check-back : xorAll p ≡ 255 → bit_xor (xorAll (set p 7 0)) 255 ≡ get_or p 7 0
-  check-back x =
+  check_back : xor_all p ≡ 255 → bit_xor (xor_all (set p 7 0)) 255 ≡ get_or p 7 0
+  check_back x =
       let v = get_or p 7 0 in
-      ap (λ (y : ℕ). bit_xor y 255) (xor-set p 7 0 long ∙ xor_zero_l (bit_xor v (xorAll p)) ∙ ap (bit_xor v) x)
+      ap (λ (y : ℕ). bit_xor y 255) (xor_set p 7 0 long ∙ xor_zero_l (bit_xor v (xor_all p)) ∙ ap (bit_xor v) x)
       ∙ xor_assoc v 255 255
       ∙ ap (bit_xor v) (xor_self 255)
       ∙ xor_zero_r v
 
-  pub sealed-back : xorAll p ≡ 255 → sealed (set p 7 0) ≡ p
+  pub sealed_back : xor_all p ≡ 255 → sealed (set p 7 0) ≡ p
   unfolding sealed
-  sealed-back x = set-set p 7 0 (bit_xor (xorAll (set p 7 0)) 255) ∙ ap (set p 7) (check-back x) ∙ set-get_or p 7 0
+  sealed_back x = set-set p 7 0 (bit_xor (xor_all (set p 7 0)) 255) ∙ ap (set p 7) (check_back x) ∙ set-get_or p 7 0

@@ -7,48 +7,48 @@ use Prim.Native.Nat.{ℕ, ◌+◌, ◌*◌, ◌-◌, ◌≤◌, ◌<◌, min}
 use native.Mathlib.Omega.{arith}
 use lib.ListN.{length, length-take, length-drop}
 use Rattle.wire.specs.Bytes.{word_bytes}
-use Rattle.wire.proofs.Numbers.{be-back}
-use Rattle.rules.specs.Regions.{end_of, anyRight, dumpRight, imageLength}
-use Rattle.rules.specs.States.{pieceWords, goodState}
-use Rattle.rules.specs.Packets.{sequenceCountOf, lengthFieldOf, unit_at, transactionAt}
-use Rattle.rules.specs.Results.{answerNumber}
-use Rattle.rules.specs.Slots.{SlotArgs, longestPacket, packetHeader, nextWords, packetBytes, slotCall}
-use Rattle.rules.specs.Ground.{packetFields, PacketRead, readPacket}
+use Rattle.wire.proofs.Numbers.{be_back}
+use Rattle.rules.specs.Regions.{end_of, any_right, dump_right, image_length}
+use Rattle.rules.specs.States.{piece_words, good_state}
+use Rattle.rules.specs.Packets.{sequence_count_of, length_field_of, unit_at, transaction_at}
+use Rattle.rules.specs.Results.{answer_number}
+use Rattle.rules.specs.Slots.{SlotArgs, longest_packet, packet_header, next_words, packet_bytes, slot_call}
+use Rattle.rules.specs.Ground.{packet_fields, PacketRead, read_packet}
 use Rattle.rules.specs.Demand2.{SlotDone}
-use Rattle.rules.specs.ReadBack.{SlotFits, packetOf, fields_of}
+use Rattle.rules.specs.ReadBack.{SlotFits, packet_of, fields_of}
 use Rattle.rules.specs.declared.ActiveDump.{ActiveDump}
 use Rattle.rules.specs.declared.DumpPacket.{DumpPacket}
 use Rattle.rules.specs.declared.Header.{Header}
 use Rattle.rules.specs.declared.PacketReading.TheVariants.{Packet}
 use Rattle.rules.specs.declared.State.{State}
-use Rattle.rules.proofs.Fits.{packet-length, next-most}
-use Rattle.rules.proofs.Good.{DumpIs, GoodIs, good-out}
-use Rattle.rules.proofs.AfterPacket.{piece-some}
-use Rattle.rules.proofs.Located.{good-table}
-use Rattle.rules.proofs.PacketTests.{sentBefore, CutIs, PacketIs, packet-in}
-use Rattle.rules.proofs.Rules.{start-out}
-use Rattle.rules.proofs.Shown.{packet-number, packet-data, packet-range, packet-address, packet-count, served-dump, served-number}
+use Rattle.rules.proofs.Fits.{packet_length_lem, next_most}
+use Rattle.rules.proofs.Good.{DumpIs, GoodIs, good_out}
+use Rattle.rules.proofs.AfterPacket.{piece_some}
+use Rattle.rules.proofs.Located.{good_table_lem}
+use Rattle.rules.proofs.PacketTests.{sent_before, CutIs, PacketIs, packet_in_lem}
+use Rattle.rules.proofs.Rules.{start_out}
+use Rattle.rules.proofs.Shown.{packet_number_lem, packet_data, packet_range, packet_address, packet_count_lem, served_dump, served_number}
 use Rattle.rules.proofs.Slot.{slot}
-use Rattle.rules.proofs.Table.{one_out, one-any, range-low, words-length}
+use Rattle.rules.proofs.Table.{one_out, one_any, range_low, words_length}
 
 -- THE BYTES
 
 module _ (s : State) (tick : ℕ) (d : ActiveDump) (ws : List ℕ) where
-  packet-sequence : s.packets ≤ 16383 → sequenceCountOf (packetBytes s tick d ws) ≡ s.packets
-  unfolding packetBytes
-  packet-sequence h = omega arith
+  packet_sequence : s.packets ≤ 16383 → sequence_count_of (packet_bytes s tick d ws) ≡ s.packets
+  unfolding packet_bytes
+  packet_sequence h = omega arith
 
-  packet-unit : s.unit ≤ 15 → d.transaction ≤ 4095 → unit_at (packetBytes s tick d ws) 6 ≡ s.unit
-  unfolding packetBytes
-  packet-unit h k = omega arith
+  packet_unit : s.unit ≤ 15 → d.transaction ≤ 4095 → unit_at (packet_bytes s tick d ws) 6 ≡ s.unit
+  unfolding packet_bytes
+  packet_unit h k = omega arith
 
-  pub packet-tick : tick < 4294967296 → (packetFields (packetBytes s tick d ws)).tick ≡ tick
-  unfolding packetBytes
-  packet-tick h = be-back 4 tick h
+  pub packet_tick : tick < 4294967296 → (packet_fields (packet_bytes s tick d ws)).tick ≡ tick
+  unfolding packet_bytes
+  packet_tick h = be_back 4 tick h
 
-  pub packet-length-field : packetHeader + 4 * length ws ≤ longestPacket → lengthFieldOf (packetBytes s tick d ws) + 7 ≡ packetHeader + 4 * length ws
-  unfolding packetBytes
-  packet-length-field h = omega arith
+  pub packet_length_field : packet_header + 4 * length ws ≤ longest_packet → length_field_of (packet_bytes s tick d ws) + 7 ≡ packet_header + 4 * length ws
+  unfolding packet_bytes
+  packet_length_field h = omega arith
 
 -- THE PACKET
 
@@ -58,30 +58,30 @@ pub record Bounds (s : State) (c : SlotArgs) (d : ActiveDump) : Type 0 where
   pub packets : s.packets ≤ 16383
   pub unit : s.unit ≤ 15
   pub low : end_of d.range ≤ 4294967296
-  pub cut : length (nextWords s c.image d) ≡ min (pieceWords d.range) (d.range.words - d.sent)
-  pub longest : packetHeader + 4 * length (nextWords s c.image d) ≤ longestPacket
+  pub cut : length (next_words s c.image d) ≡ min (piece_words d.range) (d.range.words - d.sent)
+  pub longest : packet_header + 4 * length (next_words s c.image d) ≤ longest_packet
 
-module _ (s : State) (c : SlotArgs) (x : SlotDone s c (slotCall s c)) where
+module _ (s : State) (c : SlotArgs) (x : SlotDone s c (slot_call s c)) where
   abbrev words : List ℕ
-  words = nextWords s c.image x.dump
+  words = next_words s c.image x.dump
 
   abbrev bytes : List ℕ
-  bytes = packetBytes s c.tick x.dump words
+  bytes = packet_bytes s c.tick x.dump words
 
   -- the fields that the slot put there, with any tick
-  abbrev fieldsWith : ℕ → DumpPacket
-  fieldsWith tick = record { header = (fields_of s c x).header; tick = tick; range = x.dump.range; here = (fields_of s c x).here; words = length words }
+  abbrev fields_with : ℕ → DumpPacket
+  fields_with tick = record { header = (fields_of s c x).header; tick = tick; range = x.dump.range; here = (fields_of s c x).here; words = length words }
 
-  fields_back : (tick : ℕ) → (packetFields bytes).tick ≡ tick → Bounds s c x.dump → packetFields bytes ≡ fieldsWith tick
-  unfolding packetBytes
+  fields_back : (tick : ℕ) → (packet_fields bytes).tick ≡ tick → Bounds s c x.dump → packet_fields bytes ≡ fields_with tick
+  unfolding packet_bytes
   fields_back tick e b =
       let d = x.dump in
-      let count = packet-sequence s c.tick d words b.packets in
-      let unit = packet-unit s c.tick d words b.unit b.dump.number in
-      let number = packet-number s c.tick d words [] b.dump.number in
-      let range = packet-range s c.tick d words (omega arith) (omega arith) in
-      let here = packet-address s c.tick d words (omega arith) in
-      let size = packet-count s c.tick d words (omega arith) in
+      let count = packet_sequence s c.tick d words b.packets in
+      let unit = packet_unit s c.tick d words b.unit b.dump.number in
+      let number = packet_number_lem s c.tick d words [] b.dump.number in
+      let range = packet_range s c.tick d words (omega arith) (omega arith) in
+      let here = packet_address s c.tick d words (omega arith) in
+      let size = packet_count_lem s c.tick d words (omega arith) in
       λ i.
       record {
         header = record { count = count i; unit = unit i; transaction = number i };
@@ -91,10 +91,10 @@ module _ (s : State) (c : SlotArgs) (x : SlotDone s c (slotCall s c)) where
         words = size i;
       }
 
-  cut-is : (tick : ℕ) → Bounds s c x.dump → CutIs (fieldsWith tick)
-  cut-is tick b =
+  cut_is : (tick : ℕ) → Bounds s c x.dump → CutIs (fields_with tick)
+  cut_is tick b =
       let d = x.dump in
-      let e : sentBefore (fieldsWith tick) ≡ d.sent = omega arith in
+      let e : sent_before (fields_with tick) ≡ d.sent = omega arith in
       record {
         multiple = b.dump.multiple;
         some = b.dump.some;
@@ -107,78 +107,78 @@ module _ (s : State) (c : SlotArgs) (x : SlotDone s c (slotCall s c)) where
         piece = rw e b.cut;
       }
 
-  packet-is : Bounds s c x.dump → PacketIs bytes
-  unfolding packetBytes
-  packet-is b =
-      let tick = (packetFields bytes).tick in
+  packet_is : Bounds s c x.dump → PacketIs bytes
+  unfolding packet_bytes
+  packet_is b =
+      let tick = (packet_fields bytes).tick in
       let e = fields_back tick refl b in
-      let l = packet-length s c.tick x.dump words in
-      let z = piece-some x.dump.range in
+      let l = packet_length_lem s c.tick x.dump words in
+      let z = piece_some x.dump.range in
       record {
         formed =
             record {
               bytes = omega arith;
               version = refl;
               type = refl;
-              second-header = refl;
-              sequence-flags = omega arith;
-              length-field = packet-length-field s c.tick x.dump words b.longest ∙ sym l;
+              second_header = refl;
+              sequence_flags = omega arith;
+              length_field = packet_length_field s c.tick x.dump words b.longest ∙ sym l;
             };
         apid = refl;
         some = subst⁻¹ (λ (f : DumpPacket). 1 ≤ f.words) e (omega arith);
-        most = subst⁻¹ (λ (f : DumpPacket). f.words ≤ pieceWords f.range) e (omega arith);
-        bytes = subst⁻¹ (λ (f : DumpPacket). length bytes ≡ packetHeader + 4 * f.words) e l;
-        cut = subst⁻¹ CutIs e (cut-is tick b);
+        most = subst⁻¹ (λ (f : DumpPacket). f.words ≤ piece_words f.range) e (omega arith);
+        bytes = subst⁻¹ (λ (f : DumpPacket). length bytes ≡ packet_header + 4 * f.words) e l;
+        cut = subst⁻¹ CutIs e (cut_is tick b);
       }
 
   -- a slot of a good state keeps to the bounds
 
-  pub bounds : goodState s ≡ true → length c.image ≡ imageLength s.regions s.count → Bounds s c x.dump
-  unfolding nextWords
+  pub bounds : good_state s ≡ true → length c.image ≡ image_length s.regions s.count → Bounds s c x.dump
+  unfolding next_words
   bounds good image =
       let r = x.dump.range in
-      let g : GoodIs s = good-out s good in
-      let is : DumpIs s.regions s.count x.dump = served-dump s c (slotCall s c) x good in
-      let one = one-any dumpRight s.regions s.count r is.region in
-      let lies = one_out anyRight s.regions s.count r one in
+      let g : GoodIs s = good_out s good in
+      let is : DumpIs s.regions s.count x.dump = served_dump s c (slot_call s c) x good in
+      let one = one_any dump_right s.regions s.count r is.region in
+      let lies = one_out any_right s.regions s.count r one in
       record {
         dump = is;
         packets = g.packets;
-        unit = (start-out s.regions s.count s.pools s.unit g.rules).low;
-        low = range-low s.regions s.count (good-table s good) r lies.0 lies.1;
-        cut = rw (length-take, length-drop, words-length s.regions s.count r c.image one image);
-        longest = next-most s c.image x.dump;
+        unit = (start_out s.regions s.count s.pools s.unit g.rules).low;
+        low = range_low s.regions s.count (good_table_lem s good) r lies.0 lies.1;
+        cut = rw (length-take, length-drop, words_length s.regions s.count r c.image one image);
+        longest = next_most s c.image x.dump;
       }
 
-  packet-read : SlotFits s c → readPacket (packetOf s c) ≡ record { reading = Packet (fields_of s c x); part = word_bytes words }
-  packet-read fits =
+  packet_read : SlotFits s c → read_packet (packet_of s c) ≡ record { reading = Packet (fields_of s c x); part = word_bytes words }
+  packet_read fits =
       let b = bounds fits.good fits.image in
-      let tick = packet-tick s c.tick x.dump words fits.tick in
-      rw (x.packet, packet-in bytes (packet-is b), fields_back c.tick tick b, packet-data s c.tick x.dump words)
+      let tick = packet_tick s c.tick x.dump words fits.tick in
+      rw (x.packet, packet_in_lem bytes (packet_is b), fields_back c.tick tick b, packet_data s c.tick x.dump words)
 
-pub slot_read : (s : State) (c : SlotArgs) → SlotFits s c → answerNumber (slotCall s c).answer ≡ 0
-    → (d : SlotDone s c (slotCall s c))
-    × ((readPacket (packetOf s c)).reading ≡ Packet (fields_of s c d))
-    × ((readPacket (packetOf s c)).part ≡ word_bytes (nextWords s c.image d.dump))
+pub slot_read : (s : State) (c : SlotArgs) → SlotFits s c → answer_number (slot_call s c).answer ≡ 0
+    → (d : SlotDone s c (slot_call s c))
+    × ((read_packet (packet_of s c)).reading ≡ Packet (fields_of s c d))
+    × ((read_packet (packet_of s c)).part ≡ word_bytes (next_words s c.image d.dump))
 slot_read s c fits h =
-    let x : SlotDone s c (slotCall s c) = (slot s c fits.good fits.image fits.buffer).done h in
-    let e = packet-read s c x fits in
+    let x : SlotDone s c (slot_call s c) = (slot s c fits.good fits.image fits.buffer).done h in
+    let e = packet_read s c x fits in
     (x, ap (λ (r : PacketRead). r.reading) e, ap (λ (r : PacketRead). r.part) e)
 
 -- Whatever the tick is, the reader accepts the packet, which names the state's unit and the number that stands in the buffer.
 pub record Readable (s : State) (c : SlotArgs) : Type 0 where
-  pub packet : PacketIs (packetOf s c)
-  pub unit : unit_at (packetOf s c) 6 ≡ s.unit
-  pub number : transactionAt (packetOf s c) 6 ≡ transactionAt (slotCall s c).buffer 6
+  pub packet : PacketIs (packet_of s c)
+  pub unit : unit_at (packet_of s c) 6 ≡ s.unit
+  pub number : transaction_at (packet_of s c) 6 ≡ transaction_at (slot_call s c).buffer 6
 
-pub slot-readable : (s : State) (c : SlotArgs) → goodState s ≡ true → length c.image ≡ imageLength s.regions s.count
-    → longestPacket ≤ length c.buffer → answerNumber (slotCall s c).answer ≡ 0 → Readable s c
-slot-readable s c good image buffer h =
-    let x : SlotDone s c (slotCall s c) = (slot s c good image buffer).done h in
+pub slot_readable : (s : State) (c : SlotArgs) → good_state s ≡ true → length c.image ≡ image_length s.regions s.count
+    → longest_packet ≤ length c.buffer → answer_number (slot_call s c).answer ≡ 0 → Readable s c
+slot_readable s c good image buffer h =
+    let x : SlotDone s c (slot_call s c) = (slot s c good image buffer).done h in
     let b = bounds s c x good image in
-    let f = ap (λ (p : List ℕ). (packetFields p).header) x.packet ∙ ap (λ (f : DumpPacket). f.header) (fields_back s c x _ refl b) in
+    let f = ap (λ (p : List ℕ). (packet_fields p).header) x.packet ∙ ap (λ (f : DumpPacket). f.header) (fields_back s c x _ refl b) in
     record {
-      packet = subst⁻¹ PacketIs x.packet (packet-is s c x b);
+      packet = subst⁻¹ PacketIs x.packet (packet_is s c x b);
       unit = ap (λ (k : Header). k.unit) f;
-      number = ap (λ (k : Header). k.transaction) f ∙ sym (served-number s c (slotCall s c) x good);
+      number = ap (λ (k : Header). k.transaction) f ∙ sym (served_number s c (slot_call s c) x good);
     }

@@ -10,19 +10,19 @@ use native.Mathlib.Omega.{arith}
 use lib.Dec.{leb, eqb}
 use lib.ListN.{replicate}
 use borrow.Author.Tests.{leb-true, eqb-true, not-false}
-use Rattle.lists.proofs.Tests.{either, contra, and_left, and_right, by-lt}
-use Rattle.lists.proofs.Below.{none-at, first_found}
+use Rattle.lists.proofs.Tests.{either, contra, and_left, and_right, by_lt}
+use Rattle.lists.proofs.Below.{none_at, first_found}
 use Rattle.wire.specs.Bytes.{AreBytes}
 use Rattle.symbols.specs.Table.{value_of}
 use Rattle.rules.specs.Regions.{start_of, aligned}
-use Rattle.rules.specs.States.{startRules, idlePlace, entriesUsed, freshState, startUp, pieceWords, dumpRules, contextAt, contextRules, busyWith, goodState}
-use Rattle.rules.specs.Packets.{functionCodeOf, commandTransaction, requested, decode, nameIn, fieldRules}
-use Rattle.rules.specs.Pools.{Walk, damaged, whole, blocksOf}
-use Rattle.rules.specs.Results.{counted, lowest, verdictNumber}
-use Rattle.rules.specs.Values.{addressFits}
-use Rattle.rules.specs.Commands.{CommandArgs, rangeBy, task_of, task, lacksRight, numberTaken, noPlace, noSuchDump, anyWith, anyIdle, isIdle, poolWords, commandRows, changed, acceptedMore, refusedMore, refusedCommand, firstIdle, firstWith, setContext, newDump, replied, carryOut, conclude, commandCall}
-use Rattle.rules.specs.Slots.{SlotArgs, nextPlace, afterPacket, serve, concludeSlot, slotRows, slotCall}
-use Rattle.rules.specs.Demand2.{afterCommand}
+use Rattle.rules.specs.States.{start_rules, idle_place, entries_used, fresh_state, start_up, piece_words, dump_rules, context_at, context_rules, busy_with, good_state}
+use Rattle.rules.specs.Packets.{function_code_of, command_transaction, requested, decode, name_in, field_rules}
+use Rattle.rules.specs.Pools.{Walk, damaged, whole, blocks_of}
+use Rattle.rules.specs.Results.{counted, lowest, verdict_number}
+use Rattle.rules.specs.Values.{address_fits}
+use Rattle.rules.specs.Commands.{CommandArgs, range_by, task_of, task, lacks_right, number_taken, no_place, no_such_dump, any_with, any_idle, is_idle, pool_words, command_rows, changed, accepted_more, refused_more, refused_command, first_idle, first_with, set_context, new_dump, replied, carry_out, conclude, command_call}
+use Rattle.rules.specs.Slots.{SlotArgs, next_place, after_packet, serve, conclude_slot, slot_rows, slot_call}
+use Rattle.rules.specs.Demand2.{after_command}
 use Rattle.rules.specs.declared.ActiveDump.{ActiveDump}
 use Rattle.rules.specs.declared.Command.TheVariants.{Dump, Cancel, Load, PoolStatistics, SymbolValue, DumpSymbol}
 use Rattle.rules.specs.declared.Context.{Context}
@@ -39,26 +39,26 @@ use Rattle.rules.specs.declared.Task.TheVariants.{DumpRange, CancelDump}
 use Rattle.rules.specs.declared.Verdict.{Verdict}
 use Rattle.rules.specs.declared.Verdict.TheVariants.{Accepted, Rejected}
 use Rattle.rules.proofs.AfterPacket.{moved, after_more, after_last}
-use Rattle.rules.proofs.Good.{DumpIs, dump-out, dump-in, Apart, PlacesAre, places-keep, GoodIs, good-out, good-in}
-use Rattle.rules.proofs.Passed.{Tested, tests-passed}
-use Rattle.rules.proofs.Rules.{replicate-at, used-region, same-rules}
-use Rattle.rules.proofs.Round.{next-in-four}
+use Rattle.rules.proofs.Good.{DumpIs, dump_out, dump_in, Apart, PlacesAre, places_keep, GoodIs, good_out, good_in}
+use Rattle.rules.proofs.Passed.{Tested, tests_passed}
+use Rattle.rules.proofs.Rules.{replicate_at, used_region, same_rules}
+use Rattle.rules.proofs.Round.{next_in_four}
 
 -- COMMANDS
 
 -- the size that a packet asks of a dump: a number of two bytes
-abbrev dumpSize : Decoded → ℕ
-dumpSize Unknown = 0
-dumpSize (Known (Dump q)) = q.size
-dumpSize (Known Cancel) = 0
-dumpSize (Known (Load q)) = 0
-dumpSize (Known (PoolStatistics i)) = 0
-dumpSize (Known (SymbolValue n)) = 0
-dumpSize (Known (DumpSymbol q)) = q.size
+abbrev dump_size : Decoded → ℕ
+dump_size Unknown = 0
+dump_size (Known (Dump q)) = q.size
+dump_size (Known Cancel) = 0
+dump_size (Known (Load q)) = 0
+dump_size (Known (PoolStatistics i)) = 0
+dump_size (Known (SymbolValue n)) = 0
+dump_size (Known (DumpSymbol q)) = q.size
 
-dump-size : (p : List ℕ) → AreBytes p → dumpSize (decode p) ≤ 65535
+dump_size_lem : (p : List ℕ) → AreBytes p → dump_size (decode p) ≤ 65535
 unfolding decode
-dump-size p b =
+dump_size_lem p b =
     let x = b 10 in
     let y = b 11 in
     let u = b 64 in
@@ -70,119 +70,119 @@ dump-size p b =
     (by_code 8 (λ j. rw j (omega arith)) (λ j. rw j
     (by_code 9 (λ k. rw k (omega arith)) (λ k. rw k (omega arith))))))))))))
   where
-    by_code : {A : Type 0} (k : ℕ) → (eqb (functionCodeOf p) k ≡ true → A) → (eqb (functionCodeOf p) k ≡ false → A) → A
-    by_code k = either (eqb (functionCodeOf p) k)
+    by_code : {A : Type 0} (k : ℕ) → (eqb (function_code_of p) k ≡ true → A) → (eqb (function_code_of p) k ≡ false → A) → A
+    by_code k = either (eqb (function_code_of p) k)
 
 -- what the tests of its fields say of a dump's range, after what else they say
-range-fields : (b : Bool) (r : Range) → (b && aligned r && leb 1 r.words) ≡ true → (start_of r % 4 ≡ 0) × (1 ≤ r.words)
-range-fields b r h =
+range_fields : (b : Bool) (r : Range) → (b && aligned r && leb 1 r.words) ≡ true → (start_of r % 4 ≡ 0) × (1 ≤ r.words)
+range_fields b r h =
     let a = aligned r in
     let w = leb 1 r.words in
     (eqb-true _ _ (and_right b a (and_left (b && a) w h)), leb-true _ _ (and_right (b && a) w h))
 
 module _ (s : State) (g : GoodIs s) where
-  changed-good : (places : List Place) (replies values accepted refused : ℕ) → PlacesAre s.regions s.count places → replies ≤ 16383
+  changed_good : (places : List Place) (replies values accepted refused : ℕ) → PlacesAre s.regions s.count places → replies ≤ 16383
       → values ≤ 16383 → accepted ≤ 65535 → refused ≤ 65535 → GoodIs (changed s places replies values accepted refused)
-  changed-good places replies values accepted refused p hr hv ha hf =
+  changed_good places replies values accepted refused p hr hv ha hf =
       record
       { rules = g.rules; last = g.last; replies = hr; values = hv; packets = g.packets; accepted = ha; refused = hf; places = p }
 
   -- one more command accepted
-  accepted-good : (places : List Place) → PlacesAre s.regions s.count places → GoodIs (afterCommand s places s.replies s.values)
-  accepted-good places p = changed-good places s.replies s.values (acceptedMore s) s.refused p g.replies g.values (omega arith) g.refused
+  accepted_good : (places : List Place) → PlacesAre s.regions s.count places → GoodIs (after_command s places s.replies s.values)
+  accepted_good places p = changed_good places s.replies s.values (accepted_more s) s.refused p g.replies g.values (omega arith) g.refused
 
-  refused-good : (c : CommandArgs) (r : Refusal) → GoodIs (refusedCommand s c r).state
-  refused-good c r =
+  refused_good : (c : CommandArgs) (r : Refusal) → GoodIs (refused_command s c r).state
+  refused_good c r =
       either (counted r)
       (λ e. rw e
-      (changed-good s.places s.replies s.values s.accepted (refusedMore s) g.places g.replies g.values g.accepted (omega arith)))
+      (changed_good s.places s.replies s.values s.accepted (refused_more s) g.places g.replies g.values g.accepted (omega arith)))
       (λ e. rw e g)
 
 -- what an accepted command does
 module _ (s : State) (c : CommandArgs) (g : GoodIs s) where
   -- the places with one changed, after one more command accepted
-  place-good : (i : ℕ) (a : Context) → i < 4 → contextRules s.regions s.count a ≡ true
-      → ((j : ℕ) → j < 4 → j ≢ i → Apart a (contextAt s.places j)) → GoodIs (afterCommand s (setContext s.places i a) s.replies s.values)
-  place-good i a l ok apart = accepted-good s g _ (places-keep s.regions s.count s.places g.places i a l ok apart)
+  place_good : (i : ℕ) (a : Context) → i < 4 → context_rules s.regions s.count a ≡ true
+      → ((j : ℕ) → j < 4 → j ≢ i → Apart a (context_at s.places j)) → GoodIs (after_command s (set_context s.places i a) s.replies s.values)
+  place_good i a l ok apart = accepted_good s g _ (places_keep s.regions s.count s.places g.places i a l ok apart)
 
-  new-dump : (r : Range) → r.words ≤ 65535 → (start_of r % 4 ≡ 0) × (1 ≤ r.words) → lacksRight s (DumpRange r) ≡ false
-      → DumpIs s.regions s.count (newDump (commandTransaction c.packet) r)
-  new-dump r small f right =
+  new_dump_lem : (r : Range) → r.words ≤ 65535 → (start_of r % 4 ≡ 0) × (1 ≤ r.words) → lacks_right s (DumpRange r) ≡ false
+      → DumpIs s.regions s.count (new_dump (command_transaction c.packet) r)
+  new_dump_lem r small f right =
       record {
         number = omega arith;
         some = f.1;
         most = small;
         multiple = f.0;
         region = not-false _ right;
-        cut = zero-mod (pieceWords r);
+        cut = zero-mod (piece_words r);
         more = f.1;
       }
 
-  dump-good : (r : Range) → DumpIs s.regions s.count (newDump (commandTransaction c.packet) r)
-      → numberTaken s (commandTransaction c.packet) (DumpRange r) ≡ false → noPlace s (DumpRange r) ≡ false
-      → GoodIs (carryOut s c (DumpRange r)).state
-  unfolding firstIdle anyIdle anyWith
-  dump-good r is new place =
-      let t = commandTransaction c.packet in
+  dump_good : (r : Range) → DumpIs s.regions s.count (new_dump (command_transaction c.packet) r)
+      → number_taken s (command_transaction c.packet) (DumpRange r) ≡ false → no_place s (DumpRange r) ≡ false
+      → GoodIs (carry_out s c (DumpRange r)).state
+  unfolding first_idle any_idle any_with
+  dump_good r is new place =
+      let t = command_transaction c.packet in
       let ps = s.places in
-      let d = newDump t r in
-      let idle = first_found (λ (i : ℕ). isIdle (contextAt ps i)) 4 (not-false _ place) in
-      place-good (firstIdle ps) (Busy d) idle.0 (dump-in s.regions s.count d is)
-      (λ j l ne u k. rw (eqb-true t u k) at (none-at (λ (i : ℕ). busyWith t (contextAt ps i)) 4 new l))
+      let d = new_dump t r in
+      let idle = first_found (λ (i : ℕ). is_idle (context_at ps i)) 4 (not-false _ place) in
+      place_good (first_idle ps) (Busy d) idle.0 (dump_in s.regions s.count d is)
+      (λ j l ne u k. rw (eqb-true t u k) at (none_at (λ (i : ℕ). busy_with t (context_at ps i)) 4 new l))
 
-  cancel-good : noSuchDump s (commandTransaction c.packet) CancelDump ≡ false → GoodIs (carryOut s c CancelDump).state
-  unfolding firstWith anyWith
-  cancel-good busy-with =
-      let t = commandTransaction c.packet in
+  cancel_good : no_such_dump s (command_transaction c.packet) CancelDump ≡ false → GoodIs (carry_out s c CancelDump).state
+  unfolding first_with any_with
+  cancel_good busy-with =
+      let t = command_transaction c.packet in
       let ps = s.places in
-      let busy = first_found (λ (i : ℕ). busyWith t (contextAt ps i)) 4 (not-false _ busy-with) in
-      place-good (firstWith t ps) Idle busy.0 refl (λ j l ne u k. absurd (contra k refl))
+      let busy = first_found (λ (i : ℕ). busy_with t (context_at ps i)) 4 (not-false _ busy-with) in
+      place_good (first_with t ps) Idle busy.0 refl (λ j l ne u k. absurd (contra k refl))
 
-  replied-good : (i : ℕ) (w : Walk) → GoodIs (replied s c i w).state
-  replied-good i damaged = refused-good s g c PoolDamaged
-  replied-good i (whole bs) =
-      changed-good s g s.places ((s.replies + 1) % 16384) s.values (acceptedMore s) s.refused
+  replied_good : (i : ℕ) (w : Walk) → GoodIs (replied s c i w).state
+  replied_good i damaged = refused_good s g c PoolDamaged
+  replied_good i (whole bs) =
+      changed_good s g s.places ((s.replies + 1) % 16384) s.values (accepted_more s) s.refused
       g.places (omega arith) g.values (omega arith) g.refused
 
-  carried-good : (d : Decoded) → dumpSize d ≤ 65535 → Tested s c d → GoodIs (carryOut s c (task_of c.symbols (nameIn c.packet) d)).state
-  unfolding fieldRules
-  carried-good Unknown small h = refused-good s g c UnknownCode
-  carried-good (Known (Dump q)) small h =
+  carried_good : (d : Decoded) → dump_size d ≤ 65535 → Tested s c d → GoodIs (carry_out s c (task_of c.symbols (name_in c.packet) d)).state
+  unfolding field_rules
+  carried_good Unknown small h = refused_good s g c UnknownCode
+  carried_good (Known (Dump q)) small h =
       let r = requested q in
-      dump-good r (new-dump r small (range-fields true r (not-false _ h.laid.fields)) h.right) h.new h.place
-  carried-good (Known Cancel) small h = cancel-good h.busy
-  carried-good (Known (Load q)) small h = accepted-good s g s.places g.places
-  carried-good (Known (PoolStatistics i)) small h = replied-good i (blocksOf (poolWords s i c.image))
-  carried-good (Known (SymbolValue n)) small h =
-      changed-good s g s.places s.replies ((s.values + 1) % 16384) (acceptedMore s) s.refused
+      dump_good r (new_dump_lem r small (range_fields true r (not-false _ h.laid.fields)) h.right) h.new h.place
+  carried_good (Known Cancel) small h = cancel_good h.busy
+  carried_good (Known (Load q)) small h = accepted_good s g s.places g.places
+  carried_good (Known (PoolStatistics i)) small h = replied_good i (blocks_of (pool_words s i c.image))
+  carried_good (Known (SymbolValue n)) small h =
+      changed_good s g s.places s.replies ((s.values + 1) % 16384) (accepted_more s) s.refused
       g.places g.replies (omega arith) (omega arith) g.refused
-  carried-good (Known (DumpSymbol q)) small h =
-      let r = rangeBy c.symbols (nameIn c.packet) q in
-      let b = addressFits (value_of c.symbols (nameIn c.packet)) q.offset in
-      dump-good r (new-dump r small (range-fields b r (not-false _ h.laid.range)) h.right) h.new h.place
+  carried_good (Known (DumpSymbol q)) small h =
+      let r = range_by c.symbols (name_in c.packet) q in
+      let b = address_fits (value_of c.symbols (name_in c.packet)) q.offset in
+      dump_good r (new_dump_lem r small (range_fields b r (not-false _ h.laid.range)) h.right) h.new h.place
 
-pub command-good : (s : State) (c : CommandArgs) → AreBytes c.packet → goodState s ≡ true → goodState (commandCall s c).state ≡ true
-unfolding commandCall task
-command-good s c bytes good = good-in (commandCall s c).state (concluded (lowest (commandRows s c)) refl)
+pub command_good : (s : State) (c : CommandArgs) → AreBytes c.packet → good_state s ≡ true → good_state (command_call s c).state ≡ true
+unfolding command_call task
+command_good s c bytes good = good_in (command_call s c).state (concluded (lowest (command_rows s c)) refl)
   where
     g : GoodIs s
-    g = good-out s good
+    g = good_out s good
 
-    concluded : (v : Verdict) → lowest (commandRows s c) ≡ v → GoodIs (conclude s c v).state
-    concluded (Rejected r) h = refused-good s g c r
-    concluded Accepted h = carried-good s c g (decode c.packet) (dump-size c.packet bytes) (tests-passed s c h)
+    concluded : (v : Verdict) → lowest (command_rows s c) ≡ v → GoodIs (conclude s c v).state
+    concluded (Rejected r) h = refused_good s g c r
+    concluded Accepted h = carried_good s c g (decode c.packet) (dump_size_lem c.packet bytes) (tests_passed s c h)
 
 -- SLOTS
 
 -- what a dump is after its next packet: by the rules, and apart from whatever it was apart from
 module _ (d : ActiveDump) where
-  after-rules : (rs : List Region) (n : ℕ) → dumpRules rs n d ≡ true → contextRules rs n (afterPacket d) ≡ true
-  after-rules rs n h =
-      let z = pieceWords d.range in
-      let is = dump-out rs n d h in
-      by-lt (d.sent + z) d.range.words
+  after_rules : (rs : List Region) (n : ℕ) → dump_rules rs n d ≡ true → context_rules rs n (after_packet d) ≡ true
+  after_rules rs n h =
+      let z = piece_words d.range in
+      let is = dump_out rs n d h in
+      by_lt (d.sent + z) d.range.words
       (λ o. rw (after_more d o)
-      (dump-in rs n (moved d)
+      (dump_in rs n (moved d)
       (record {
         number = is.number;
         some = is.some;
@@ -194,16 +194,16 @@ module _ (d : ActiveDump) where
       })))
       (λ o. rw (after_last d o))
 
-  after-apart : (b : Context) → Apart (Busy d) b → Apart (afterPacket d) b
-  after-apart b f t =
-      by-lt (d.sent + pieceWords d.range) d.range.words
+  after_apart : (b : Context) → Apart (Busy d) b → Apart (after_packet d) b
+  after_apart b f t =
+      by_lt (d.sent + piece_words d.range) d.range.words
       (λ o. rw (after_more d o) (f t))
       (λ o. rw (after_last d o) (λ k. absurd (contra k refl)))
 
 module _ (s : State) (c : SlotArgs) (g : GoodIs s) where
-  served-good : (p : ℕ) (a : Context) → p < 4 → contextAt s.places p ≡ a → GoodIs (serve s c p a).state
-  served-good p Idle l e = g
-  served-good p (Busy d) l e =
+  served_good : (p : ℕ) (a : Context) → p < 4 → context_at s.places p ≡ a → GoodIs (serve s c p a).state
+  served_good p Idle l e = g
+  served_good p (Busy d) l e =
       record {
         rules = g.rules;
         last = omega arith;
@@ -213,29 +213,29 @@ module _ (s : State) (c : SlotArgs) (g : GoodIs s) where
         accepted = g.accepted;
         refused = g.refused;
         places =
-            places-keep s.regions s.count s.places g.places p (afterPacket d) l
-            (after-rules d s.regions s.count (rw e at (g.places.each p l)))
-            (λ j k ne. after-apart d (contextAt s.places j) (rw e at (g.places.alone p j l k (λ q. ne (sym q)))));
+            places_keep s.regions s.count s.places g.places p (after_packet d) l
+            (after_rules d s.regions s.count (rw e at (g.places.each p l)))
+            (λ j k ne. after_apart d (context_at s.places j) (rw e at (g.places.alone p j l k (λ q. ne (sym q)))));
       }
 
-pub slot-good : (s : State) (c : SlotArgs) → goodState s ≡ true → goodState (slotCall s c).state ≡ true
-unfolding slotCall
-slot-good s c good = good-in (slotCall s c).state (concluded (lowest (slotRows s c)))
+pub slot_good : (s : State) (c : SlotArgs) → good_state s ≡ true → good_state (slot_call s c).state ≡ true
+unfolding slot_call
+slot_good s c good = good_in (slot_call s c).state (concluded (lowest (slot_rows s c)))
   where
-    concluded : (v : Verdict) → GoodIs (concludeSlot s c v).state
-    concluded (Rejected r) = good-out s good
+    concluded : (v : Verdict) → GoodIs (conclude_slot s c v).state
+    concluded (Rejected r) = good_out s good
     concluded Accepted =
-        served-good s c (good-out s good) (nextPlace s.places s.last) (contextAt s.places (nextPlace s.places s.last))
-        (next-in-four s.places s.last) refl
+        served_good s c (good_out s good) (next_place s.places s.last) (context_at s.places (next_place s.places s.last))
+        (next_in_four s.places s.last) refl
 
 -- START-UP
 
 -- places that are all idle
-pub idle-places : (i : ℕ) → contextAt (replicate 4 idlePlace) i ≡ Idle
-idle-places i = ap (λ (p : Place). p.context) (replicate-at 4 i idlePlace)
+pub idle_places : (i : ℕ) → context_at (replicate 4 idle_place) i ≡ Idle
+idle_places i = ap (λ (p : Place). p.context) (replicate_at 4 i idle_place)
 
-pub fresh-good : (rs : List Region) (n : ℕ) (ps : List Range) (unit : ℕ) → startRules rs n ps unit ≡ true → GoodIs (freshState rs n ps unit)
-fresh-good rs n ps unit h =
+pub fresh_good : (rs : List Region) (n : ℕ) (ps : List Range) (unit : ℕ) → start_rules rs n ps unit ≡ true → GoodIs (fresh_state rs n ps unit)
+fresh_good rs n ps unit h =
     record {
       rules = h;
       last = omega arith;
@@ -247,17 +247,17 @@ fresh-good rs n ps unit h =
       places =
           record {
             four = refl;
-            each = λ i l. rw (idle-places i);
-            alone = λ i j l k ne. rw (idle-places i) (λ t q. absurd (contra q refl));
+            each = λ i l. rw (idle_places i);
+            alone = λ i j l k ne. rw (idle_places i) (λ t q. absurd (contra q refl));
           };
     }
 
-pub start-good : (rs : List Region) (n : ℕ) (pools : List Range) (unit : ℕ) → verdictNumber (startUp rs n pools unit).verdict ≡ 0
-    → goodState (startUp rs n pools unit).state ≡ true
-unfolding startUp
-start-good rs n pools unit h =
-    either (startRules rs n pools unit)
+pub start_good : (rs : List Region) (n : ℕ) (pools : List Range) (unit : ℕ) → verdict_number (start_up rs n pools unit).verdict ≡ 0
+    → good_state (start_up rs n pools unit).state ≡ true
+unfolding start_up
+start_good rs n pools unit h =
+    either (start_rules rs n pools unit)
     (λ e. rw e
-    (good-in (freshState (entriesUsed rs n) n pools unit)
-    (fresh-good (entriesUsed rs n) n pools unit (same-rules (entriesUsed rs n) rs n (λ i l. used-region rs n i l) pools unit ∙ e))))
+    (good_in (fresh_state (entries_used rs n) n pools unit)
+    (fresh_good (entries_used rs n) n pools unit (same_rules (entries_used rs n) rs n (λ i l. used_region rs n i l) pools unit ∙ e))))
     (λ e. let z = rw e at h in absurd (omega arith))

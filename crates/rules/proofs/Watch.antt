@@ -7,7 +7,7 @@ use Prim.Native.Nat.{ℕ, suc, ◌+◌, ◌*◌, ◌≤◌, ◌<◌, zero-le}
 use native.Mathlib.Omega.{arith}
 use native.Mathlib.Nat.{add-zero}
 use lib.ListN.{length, length-append}
-use Rattle.lists.proofs.Tests.{by-lt}
+use Rattle.lists.proofs.Tests.{by_lt}
 use Rattle.rules.specs.Demand3.{Event, accepts, writes, counts, packets, slots}
 
 -- no packet of transaction t before the next accepted dump with that number
@@ -36,15 +36,15 @@ quiet_none (x ∷ xs) ys (skip a b q) = rw (a, b) (quiet_none xs ys q)
 quiet_all : {t : ℕ} (es : List Event) → Quiet t es → packets t es ≡ []
 quiet_all es q = quiet_none es [] (rw append-nil q)
 
-pub head-eq : {x y : Event} {xs ys : List Event} → x ∷ xs ≡ y ∷ ys → x ≡ y
-head-eq e = cc
+pub head_eq : {x y : Event} {xs ys : List Event} → x ∷ xs ≡ y ∷ ys → x ≡ y
+head_eq e = cc
 
-pub tail-eq : {x y : Event} {xs ys : List Event} → x ∷ xs ≡ y ∷ ys → xs ≡ ys
-tail-eq e = cc
+pub tail_eq : {x y : Event} {xs ys : List Event} → x ∷ xs ≡ y ∷ ys → xs ≡ ys
+tail_eq e = cc
 
 -- an empty list has no element to split at
-pub nothing-in : {A : Type 0} (xs ys : List Event) (e : Event) → [] ≡ xs ++ e ∷ ys → A
-nothing-in xs ys e x = absurd (omega (arith, simp length-append at (ap length x)))
+pub nothing_in : {A : Type 0} (xs ys : List Event) (e : Event) → [] ≡ xs ++ e ∷ ys → A
+nothing_in xs ys e x = absurd (omega (arith, simp length-append at (ap length x)))
 
 at_once : (Right : ℕ → Event → Type 0) (j : ℕ) {e e' : Event} → counts e ≡ true → Right j e → e ≡ e' → (counts e' ≡ true) × Right (j + 0) e'
 at_once Right j c r q = subst (λ (z : Event). (counts z ≡ true) × Right (j + 0) z) q (c, rw add-zero r)
@@ -75,7 +75,7 @@ module _ {t m : ℕ} {Right : ℕ → Event → Type 0} where
   pub soon : {j w : ℕ} (xs ys zs : List Event) → Watch t m Right j w (xs ++ (ys ++ zs)) → w ≤ 3 → j + length (packets t xs) < m
       → 4 ≤ length (slots ys) → length (packets t xs) < length (packets t (xs ++ ys))
   soon {j} {w} [] ys zs v h u s =
-      by-lt 0 (length (packets t ys)) (λ l. l) (λ l. absurd (omega (arith, pace ys zs v h (omega arith))))
+      by_lt 0 (length (packets t ys)) (λ l. l) (λ l. absurd (omega (arith, pace ys zs v h (omega arith))))
   soon (x ∷ xs) ys zs (other a b c v) h u s = rw (a, b) (soon xs ys zs v h (rw (a, b) at u) s)
   soon (x ∷ xs) ys zs (passed a b c i v) h u s = rw (a, b) (soon xs ys zs v i (rw (a, b) at u) s)
   soon {j} (x ∷ xs) ys zs (packet a b c r i v) h u s =
@@ -88,13 +88,13 @@ module _ {t m : ℕ} {Right : ℕ → Event → Type 0} where
   -- the packet after j others is right
   pub shows : {j w : ℕ} {es : List Event} → Watch t m Right j w es → (ps qs : List Event) (e : Event)
       → packets t es ≡ ps ++ e ∷ qs → (counts e ≡ true) × Right (j + length ps) e
-  shows ended ps qs e x = nothing-in ps qs e x
+  shows ended ps qs e x = nothing_in ps qs e x
   shows (other a b c v) ps qs e x = shows v ps qs e (rw (a, b) at x)
   shows (passed a b c i v) ps qs e x = shows v ps qs e (rw (a, b) at x)
-  shows (packet {j = j} a b c r i v) [] qs e x = at_once Right j c r (head-eq (rw (a, b) at x))
+  shows (packet {j = j} a b c r i v) [] qs e x = at_once Right j c r (head_eq (rw (a, b) at x))
   shows (packet {j = j} a b c r i v) (p ∷ ps) qs e x =
       let k : j + suc (length ps) ≡ suc j + length ps = omega arith in
-      rw k (shows v ps qs e (tail-eq (rw (a, b) at x)))
-  shows (final {j = j} a b c r i q) [] qs e x = at_once Right j c r (head-eq (rw (a, b) at x))
+      rw k (shows v ps qs e (tail_eq (rw (a, b) at x)))
+  shows (final {j = j} a b c r i q) [] qs e x = at_once Right j c r (head_eq (rw (a, b) at x))
   shows (final {es = es} a b c r i q) (p ∷ ps) qs e x =
-      nothing-in ps qs e (sym (quiet_all es q) ∙ tail-eq (rw (a, b) at x))
+      nothing_in ps qs e (sym (quiet_all es q) ∙ tail_eq (rw (a, b) at x))

@@ -1,9 +1,9 @@
 -- The numbers and lengths of answers (paper 01, "Result numbers"), each case by name: what else fixes the definitions of Results.antt and
 -- Ground.antt that turn an answer into a number, and the part of an outcome that a call returns.
 use Rattle.std.specs.Prelude.{◌≡◌, true, false}
-use Rattle.rules.specs.Results.{number, counted, verdictNumber, answerNumber, answerLength}
+use Rattle.rules.specs.Results.{number, counted, verdict_number, answer_number, answer_length}
 use Rattle.rules.specs.Commands.{Outcome, returned}
-use Rattle.rules.specs.Ground.{readingNumber, packetNumber}
+use Rattle.rules.specs.Ground.{reading_number, packet_number}
 use Rattle.rules.specs.declared.Answer.TheVariants.{Refused, Done}
 use Rattle.rules.specs.declared.DumpPacket.{DumpPacket}
 use Rattle.rules.specs.declared.PacketReading.TheVariants.{NoPacket, Packet}
@@ -21,19 +21,19 @@ pub record AnswerNumbers : Type 0 where
   pub command : (number OutsideRegions ≡ 10) × (number NoRight ≡ 11) × (number TransactionBusy ≡ 12) × (number PlacesBusy ≡ 13) × (number NotBusy ≡ 14) × (number PoolDamaged ≡ 15)
   pub others : (number NothingToSend ≡ 16) × (number BadTable ≡ 17) × (number UnknownSymbol ≡ 18) × (number RunsOut ≡ 19)
   -- those that return the state as handed in, and those that are counted
-  pub handed-in : (counted BadState ≡ false) × (counted ImageLength ≡ false) × (counted BufferLength ≡ false) × (counted OtherApid ≡ false)
+  pub handed_in : (counted BadState ≡ false) × (counted ImageLength ≡ false) × (counted BufferLength ≡ false) × (counted OtherApid ≡ false)
       × (counted OtherUnit ≡ false) × (counted NothingToSend ≡ false)
   pub one_more : (counted Malformed ≡ true) × (counted UnknownCode ≡ true) × (counted PacketLength ≡ true) × (counted BadField ≡ true)
       × (counted OutsideRegions ≡ true) × (counted RunsOut ≡ true) × (counted NoRight ≡ true) × (counted TransactionBusy ≡ true)
       × (counted PlacesBusy ≡ true) × (counted NotBusy ≡ true) × (counted PoolDamaged ≡ true) × (counted BadTable ≡ true) × (counted UnknownSymbol ≡ true)
   -- done is 0, with the length that was written; a refusal is its number, with length 0
-  pub done : (w : Written) → (answerNumber (Done w) ≡ 0) × (answerLength (Done w) ≡ w.length)
-  pub refused : (r : Refusal) → (answerNumber (Refused r) ≡ number r) × (answerLength (Refused r) ≡ 0)
-  pub started : (verdictNumber Accepted ≡ 0) × ((r : Refusal) → verdictNumber (Rejected r) ≡ number r)
+  pub done : (w : Written) → (answer_number (Done w) ≡ 0) × (answer_length (Done w) ≡ w.length)
+  pub refused : (r : Refusal) → (answer_number (Refused r) ≡ number r) × (answer_length (Refused r) ≡ 0)
+  pub started : (verdict_number Accepted ≡ 0) × ((r : Refusal) → verdict_number (Rejected r) ≡ number r)
   -- the readers: 0 with the fields, and only then
-  pub command-read : (f : Telecommand) → readingNumber (Read f) ≡ 0
-  pub command-unread : (r : Refusal) → readingNumber (Unread r) ≡ number r
-  pub packet-read : (f : DumpPacket) → packetNumber (Packet f) ≡ 0
-  pub packet-unread : (r : Refusal) → packetNumber (NoPacket r) ≡ number r
+  pub command_read : (f : Telecommand) → reading_number (Read f) ≡ 0
+  pub command_unread : (r : Refusal) → reading_number (Unread r) ≡ number r
+  pub packet_read : (f : DumpPacket) → packet_number (Packet f) ≡ 0
+  pub packet_unread : (r : Refusal) → packet_number (NoPacket r) ≡ number r
   -- a call returns the answer and the state of its outcome
   pub returns : (o : Outcome) → ((returned o).answer ≡ o.answer) × ((returned o).state ≡ o.state)

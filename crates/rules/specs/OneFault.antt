@@ -3,11 +3,11 @@
 use Rattle.std.specs.Prelude.{◌≡◌, ◌≢◌, ◌⊎◌, List, ℕ, ◌+◌, ◌*◌, ◌/◌, ◌%◌, ◌<◌, length}
 use Rattle.wire.specs.Bytes.{AreBytes}
 use Rattle.wire.specs.ByByte.{byte, two, four}
-use Rattle.wire.specs.Xor.{xorAll}
-use Rattle.rules.specs.Results.{answerNumber, answerLength}
-use Rattle.rules.specs.Commands.{CommandArgs, Outcome, commandCall}
-use Rattle.rules.specs.Ground.{readingNumber, readCommand, packetNumber, readPacket}
-use Rattle.rules.specs.Demand1.{stateWith}
+use Rattle.wire.specs.Xor.{xor_all}
+use Rattle.rules.specs.Results.{answer_number, answer_length}
+use Rattle.rules.specs.Commands.{CommandArgs, Outcome, command_call}
+use Rattle.rules.specs.Ground.{reading_number, read_command, packet_number, read_packet}
+use Rattle.rules.specs.Demand1.{state_with}
 use Rattle.rules.specs.declared.State.{State}
 
 -- WHAT IS CHANGED: q is p but for one thing; the check byte of a command, byte 7, is left free here, and is asked to be right below
@@ -21,8 +21,8 @@ pub record OtherApid (p q : List ℕ) : Type 0 where
 -- an unknown function code
 pub record OtherCode (p q : List ℕ) : Type 0 where
   pub as_long : length q ≡ length p
-  pub seven-bits : byte q 6 < 128
-  pub none-of-six : (byte q 6 ≢ 0) × (byte q 6 ≢ 1) × (byte q 6 ≢ 4) × (byte q 6 ≢ 7) × (byte q 6 ≢ 8) × (byte q 6 ≢ 9)
+  pub seven_bits : byte q 6 < 128
+  pub none_of_six : (byte q 6 ≢ 0) × (byte q 6 ≢ 1) × (byte q 6 ≢ 4) × (byte q 6 ≢ 7) × (byte q 6 ≢ 8) × (byte q 6 ≢ 9)
 
 -- a byte more or a byte less, with its length field
 pub record OtherLength (p q : List ℕ) : Type 0 where
@@ -44,52 +44,52 @@ abbrev pub LayoutSpoiled : List ℕ → Type 0
 LayoutSpoiled q =
     (length q < 8) ⊎ (byte q 0 / 32 ≢ 0) ⊎ (byte q 0 / 16 % 2 ≢ 1) ⊎ (byte q 0 / 8 % 2 ≢ 1) ⊎ (byte q 2 / 64 ≢ 3) ⊎ (byte q 6 / 128 ≢ 0)
     ⊎ (two q 4 + 7 ≢ length q)
-    ⊎ (xorAll q ≢ 255)
+    ⊎ (xor_all q ≢ 255)
 
 -- THE COMMAND CALL
 
 -- the same call with the packet q
-abbrev pub callWith : State → CommandArgs → List ℕ → Outcome
-callWith s c q = commandCall s (record { packet = q; symbols = c.symbols; image = c.image; reply = c.reply })
+abbrev pub call_with : State → CommandArgs → List ℕ → Outcome
+call_with s c q = command_call s (record { packet = q; symbols = c.symbols; image = c.image; reply = c.reply })
 
 -- it gets number n and leaves the state `after`; image and reply stay
 pub record Gets (s : State) (c : CommandArgs) (q : List ℕ) (n : ℕ) (after : State) : Type 0 where
-  pub number : answerNumber (callWith s c q).answer ≡ n
-  pub state : (callWith s c q).state ≡ after
-  pub image : (callWith s c q).image ≡ c.image
-  pub reply : ((callWith s c q).buffer ≡ c.reply) × (answerLength (callWith s c q).answer ≡ 0)
+  pub number : answer_number (call_with s c q).answer ≡ n
+  pub state : (call_with s c q).state ≡ after
+  pub image : (call_with s c q).image ≡ c.image
+  pub reply : ((call_with s c q).buffer ≡ c.reply) × (answer_length (call_with s c q).answer ≡ 0)
 
 -- one more refused, and no other part changed
-abbrev pub refusedOnce : State → State
-refusedOnce s = stateWith s s.places s.last s.replies s.values s.packets s.accepted ((s.refused + 1) % 65536)
+abbrev pub refused_once : State → State
+refused_once s = state_with s s.places s.last s.replies s.values s.packets s.accepted ((s.refused + 1) % 65536)
 
 -- of a command that is answered 0
 pub record CommandFault (s : State) (c : CommandArgs) (q : List ℕ) : Type 0 where
   -- the check byte right again
-  pub apid : OtherApid c.packet q → ((i : ℕ) → i ≢ 0 → i ≢ 1 → i ≢ 7 → Same c.packet q i) → xorAll q ≡ 255 → Gets s c q 5 s
-  pub code : OtherCode c.packet q → ((i : ℕ) → i ≢ 6 → i ≢ 7 → Same c.packet q i) → xorAll q ≡ 255 → Gets s c q 6 (refusedOnce s)
-  pub bytes : OtherLength c.packet q → ((i : ℕ) → i ≢ 4 → i ≢ 5 → i ≢ 7 → Same c.packet q i) → xorAll q ≡ 255 → Gets s c q 7 (refusedOnce s)
-  pub unit : OtherUnit c.packet q → ((i : ℕ) → i ≢ 7 → i ≢ 8 → Same c.packet q i) → xorAll q ≡ 255 → Gets s c q 8 s
+  pub apid : OtherApid c.packet q → ((i : ℕ) → i ≢ 0 → i ≢ 1 → i ≢ 7 → Same c.packet q i) → xor_all q ≡ 255 → Gets s c q 5 s
+  pub code : OtherCode c.packet q → ((i : ℕ) → i ≢ 6 → i ≢ 7 → Same c.packet q i) → xor_all q ≡ 255 → Gets s c q 6 (refused_once s)
+  pub bytes : OtherLength c.packet q → ((i : ℕ) → i ≢ 4 → i ≢ 5 → i ≢ 7 → Same c.packet q i) → xor_all q ≡ 255 → Gets s c q 7 (refused_once s)
+  pub unit : OtherUnit c.packet q → ((i : ℕ) → i ≢ 7 → i ≢ 8 → Same c.packet q i) → xor_all q ≡ 255 → Gets s c q 8 s
   -- the check byte alone changed
-  pub check : length q ≡ length c.packet → byte q 7 ≢ byte c.packet 7 → ((i : ℕ) → i ≢ 7 → Same c.packet q i) → Gets s c q 4 (refusedOnce s)
-  pub header : LayoutSpoiled q → Gets s c q 4 (refusedOnce s)
+  pub check : length q ≡ length c.packet → byte q 7 ≢ byte c.packet 7 → ((i : ℕ) → i ≢ 7 → Same c.packet q i) → Gets s c q 4 (refused_once s)
+  pub header : LayoutSpoiled q → Gets s c q 4 (refused_once s)
 
 -- THE COMMAND READER, of a packet p that it reads: another unit is no fault there
-abbrev pub numberRead : List ℕ → ℕ
-numberRead q = readingNumber (readCommand q).reading
+abbrev pub number_read : List ℕ → ℕ
+number_read q = reading_number (read_command q).reading
 
 pub record ReaderFault (p q : List ℕ) : Type 0 where
-  pub apid : OtherApid p q → ((i : ℕ) → i ≢ 0 → i ≢ 1 → i ≢ 7 → Same p q i) → xorAll q ≡ 255 → numberRead q ≡ 5
-  pub code : OtherCode p q → ((i : ℕ) → i ≢ 6 → i ≢ 7 → Same p q i) → xorAll q ≡ 255 → numberRead q ≡ 6
-  pub bytes : OtherLength p q → ((i : ℕ) → i ≢ 4 → i ≢ 5 → i ≢ 7 → Same p q i) → xorAll q ≡ 255 → numberRead q ≡ 7
-  pub unit : OtherUnit p q → ((i : ℕ) → i ≢ 7 → i ≢ 8 → Same p q i) → xorAll q ≡ 255 → numberRead q ≡ 0
-  pub check : length q ≡ length p → byte q 7 ≢ byte p 7 → ((i : ℕ) → i ≢ 7 → Same p q i) → numberRead q ≡ 4
-  pub header : LayoutSpoiled q → numberRead q ≡ 4
+  pub apid : OtherApid p q → ((i : ℕ) → i ≢ 0 → i ≢ 1 → i ≢ 7 → Same p q i) → xor_all q ≡ 255 → number_read q ≡ 5
+  pub code : OtherCode p q → ((i : ℕ) → i ≢ 6 → i ≢ 7 → Same p q i) → xor_all q ≡ 255 → number_read q ≡ 6
+  pub bytes : OtherLength p q → ((i : ℕ) → i ≢ 4 → i ≢ 5 → i ≢ 7 → Same p q i) → xor_all q ≡ 255 → number_read q ≡ 7
+  pub unit : OtherUnit p q → ((i : ℕ) → i ≢ 7 → i ≢ 8 → Same p q i) → xor_all q ≡ 255 → number_read q ≡ 0
+  pub check : length q ≡ length p → byte q 7 ≢ byte p 7 → ((i : ℕ) → i ≢ 7 → Same p q i) → number_read q ≡ 4
+  pub header : LayoutSpoiled q → number_read q ≡ 4
 
 -- THE DUMP PACKET READER, of a packet p that it accepts
 
-abbrev pub numberGiven : List ℕ → ℕ
-numberGiven q = packetNumber (readPacket q).reading
+abbrev pub number_given : List ℕ → ℕ
+number_given q = packet_number (read_packet q).reading
 
 -- version, type, second-header flag, sequence flags, length field, whatever else the packet holds; or under 28 bytes
 abbrev pub TelemetrySpoiled : List ℕ → Type 0
@@ -101,17 +101,17 @@ abbrev pub ButFour : ℕ → List ℕ → List ℕ → Type 0
 ButFour at p q = (length q ≡ length p) × ((i : ℕ) → i ≢ at → i ≢ at + 1 → i ≢ at + 2 → i ≢ at + 3 → Same p q i)
 
 pub record PacketFault (p q : List ℕ) : Type 0 where
-  pub header : TelemetrySpoiled q → numberGiven q ≡ 4
-  pub apid : OtherApid p q → ((i : ℕ) → i ≢ 0 → i ≢ 1 → Same p q i) → numberGiven q ≡ 5
+  pub header : TelemetrySpoiled q → number_given q ≡ 4
+  pub apid : OtherApid p q → ((i : ℕ) → i ≢ 0 → i ≢ 1 → Same p q i) → number_given q ≡ 5
   -- a byte more or less; another number of words in this packet
-  pub bytes : OtherLength p q → ((i : ℕ) → i ≢ 4 → i ≢ 5 → Same p q i) → numberGiven q ≡ 7
-  pub count : ButFour 24 p q → four q 24 ≢ four p 24 → numberGiven q ≡ 7
+  pub bytes : OtherLength p q → ((i : ℕ) → i ≢ 4 → i ≢ 5 → Same p q i) → number_given q ≡ 7
+  pub count : ButFour 24 p q → four q 24 ≢ four p 24 → number_given q ≡ 7
   -- a requested address that is no multiple of 4, no requested words, and data from no whole word of the range
-  pub address : ButFour 12 p q → four q 12 % 4 ≢ 0 → numberGiven q ≡ 9
-  pub words : ButFour 16 p q → four q 16 ≡ 0 → numberGiven q ≡ 9
-  pub here : ButFour 20 p q → four q 20 % 4 ≢ 0 → numberGiven q ≡ 9
+  pub address : ButFour 12 p q → four q 12 % 4 ≢ 0 → number_given q ≡ 9
+  pub words : ButFour 16 p q → four q 16 ≡ 0 → number_given q ≡ 9
+  pub here : ButFour 20 p q → four q 20 % 4 ≢ 0 → number_given q ≡ 9
 
 pub record OneFault : Type 0 where
-  pub command : (s : State) (c : CommandArgs) (q : List ℕ) → AreBytes c.packet → AreBytes q → answerNumber (commandCall s c).answer ≡ 0 → CommandFault s c q
-  pub reader : (p q : List ℕ) → AreBytes p → AreBytes q → numberRead p ≡ 0 → ReaderFault p q
-  pub packet : (p q : List ℕ) → AreBytes p → AreBytes q → numberGiven p ≡ 0 → PacketFault p q
+  pub command : (s : State) (c : CommandArgs) (q : List ℕ) → AreBytes c.packet → AreBytes q → answer_number (command_call s c).answer ≡ 0 → CommandFault s c q
+  pub reader : (p q : List ℕ) → AreBytes p → AreBytes q → number_read p ≡ 0 → ReaderFault p q
+  pub packet : (p q : List ℕ) → AreBytes p → AreBytes q → number_given p ≡ 0 → PacketFault p q

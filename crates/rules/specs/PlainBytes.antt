@@ -3,18 +3,18 @@
 use Rattle.std.specs.Prelude.{◌≡◌, ◌≢◌, ◌↔◌, List, [], ◌∷◌, ℕ, ◌+◌, ◌*◌, ◌-◌, ◌/◌, ◌%◌, ◌≤◌, ◌<◌, min, length, get_or, take, drop, replicate}
 use Rattle.wire.specs.Bytes.{AreBytes}
 use Rattle.wire.specs.ByByte.{byte, two, four}
-use Rattle.wire.specs.Xor.{xorAll}
+use Rattle.wire.specs.Xor.{xor_all}
 use Rattle.rules.specs.GoodWhen.{Lies, first_word, words_in, Good}
-use Rattle.rules.specs.Packets.{versionOf, type_of, secondHeaderOf, apidOf, sequenceFlagsOf, sequenceCountOf, lengthFieldOf, unit_at, transactionAt, zeroBitOf, functionCodeOf, commandUnit, commandTransaction, decode, dataWords, nameIn}
-use Rattle.rules.specs.Results.{answerNumber, answerLength}
-use Rattle.rules.specs.Cases.{range_of, rangeFrom, nameFrom, poolOf, bytes_of}
+use Rattle.rules.specs.Packets.{version_of, type_of, second_header_of, apid_of, sequence_flags_of, sequence_count_of, length_field_of, unit_at, transaction_at, zero_bit_of, function_code_of, command_unit, command_transaction, decode, data_words, name_in}
+use Rattle.rules.specs.Results.{answer_number, answer_length}
+use Rattle.rules.specs.Cases.{range_of, range_from, name_from, pool_of, bytes_of}
 use Rattle.rules.specs.Commands.{CommandArgs}
-use Rattle.rules.specs.Slots.{SlotArgs, slotCall}
+use Rattle.rules.specs.Slots.{SlotArgs, slot_call}
 use Rattle.rules.specs.Values.{Reached}
 use Rattle.rules.specs.Demand3.{Call, command, slot, LendsBytes, AskedIs}
-use Rattle.rules.specs.Ground.{writeCommand, readCommand, readPacket}
+use Rattle.rules.specs.Ground.{write_command, read_command, read_packet}
 use Rattle.rules.specs.Demand2.{TelemetryHeader, SlotDone}
-use Rattle.rules.specs.ReadBack.{CommandFits, AreWords, letter, SlotFits, packetOf}
+use Rattle.rules.specs.ReadBack.{CommandFits, AreWords, letter, SlotFits, packet_of}
 use Rattle.rules.specs.declared.ActiveDump.{ActiveDump}
 use Rattle.rules.specs.declared.Command.{Command}
 use Rattle.rules.specs.declared.Command.TheVariants.{Dump, Cancel, Load, PoolStatistics, SymbolValue, DumpSymbol}
@@ -32,45 +32,45 @@ use Rattle.rules.specs.declared.Telecommand.{Telecommand}
 
 -- the primary header, and unit and transaction at byte `at`
 pub record HeaderFields (p : List ℕ) : Type 0 where
-  pub version : versionOf p ≡ byte p 0 / 32
+  pub version : version_of p ≡ byte p 0 / 32
   pub type : type_of p ≡ byte p 0 / 16 % 2
-  pub second-header : secondHeaderOf p ≡ byte p 0 / 8 % 2
-  pub apid : apidOf p ≡ byte p 0 % 8 * 256 + byte p 1
-  pub sequence-flags : sequenceFlagsOf p ≡ byte p 2 / 64
-  pub sequence-count : sequenceCountOf p ≡ byte p 2 % 64 * 256 + byte p 3
-  pub length-field : lengthFieldOf p ≡ two p 4
+  pub second_header : second_header_of p ≡ byte p 0 / 8 % 2
+  pub apid : apid_of p ≡ byte p 0 % 8 * 256 + byte p 1
+  pub sequence_flags : sequence_flags_of p ≡ byte p 2 / 64
+  pub sequence_count : sequence_count_of p ≡ byte p 2 % 64 * 256 + byte p 3
+  pub length_field : length_field_of p ≡ two p 4
   pub unit : (at : ℕ) → unit_at p at ≡ byte p at / 16
-  pub transaction : (at : ℕ) → transactionAt p at ≡ byte p at % 16 * 256 + byte p (at + 1)
+  pub transaction : (at : ℕ) → transaction_at p at ≡ byte p at % 16 * 256 + byte p (at + 1)
 
 -- the request of a dump or a load
-abbrev pub requestAt : List ℕ → Request
-requestAt p = record { size = two p 10; address = record { 0 = four p 12 } }
+abbrev pub request_at : List ℕ → Request
+request_at p = record { size = two p 10; address = record { 0 = four p 12 } }
 
 -- a command packet
 pub record CommandFields (p : List ℕ) : Type 0 where
-  pub zero_bit : zeroBitOf p ≡ byte p 6 / 128
-  pub code : functionCodeOf p ≡ byte p 6 % 128
-  pub unit : commandUnit p ≡ byte p 8 / 16
-  pub transaction : commandTransaction p ≡ byte p 8 % 16 * 256 + byte p 9
+  pub zero_bit : zero_bit_of p ≡ byte p 6 / 128
+  pub code : function_code_of p ≡ byte p 6 % 128
+  pub unit : command_unit p ≡ byte p 8 / 16
+  pub transaction : command_transaction p ≡ byte p 8 % 16 * 256 + byte p 9
   pub range : range_of p ≡ record { start = record { 0 = four p 12 }; words = two p 10 }
-  pub pool : poolOf p ≡ two p 10
+  pub pool : pool_of p ≡ two p 10
   -- the command, by the code
-  pub dump : byte p 6 % 128 ≡ 0 → decode p ≡ Known (Dump (requestAt p))
+  pub dump : byte p 6 % 128 ≡ 0 → decode p ≡ Known (Dump (request_at p))
   pub cancel : byte p 6 % 128 ≡ 1 → decode p ≡ Known Cancel
-  pub load : byte p 6 % 128 ≡ 4 → decode p ≡ Known (Load (requestAt p))
+  pub load : byte p 6 % 128 ≡ 4 → decode p ≡ Known (Load (request_at p))
   pub statistics : byte p 6 % 128 ≡ 7 → decode p ≡ Known (PoolStatistics (two p 10))
   pub value : byte p 6 % 128 ≡ 8 → decode p ≡ Known (SymbolValue (byte p 10))
-  pub by_name : byte p 6 % 128 ≡ 9 → decode p ≡ Known (DumpSymbol (record { name = byte p 10; offset = four p 60; size = two p 64 }))
+  pub by_name_lem : byte p 6 % 128 ≡ 9 → decode p ≡ Known (DumpSymbol (record { name = byte p 10; offset = four p 60; size = two p 64 }))
   pub other : byte p 6 % 128 ≢ 0 → byte p 6 % 128 ≢ 1 → byte p 6 % 128 ≢ 4 → byte p 6 % 128 ≢ 7 → byte p 6 % 128 ≢ 8 → byte p 6 % 128 ≢ 9
       → decode p ≡ Unknown
   -- the eleven data words of a load
-  pub words : length (dataWords p) ≡ 11
-  pub word : (k : ℕ) → k < 11 → get_or (dataWords p) k 0 ≡ four p (16 + 4 * k)
+  pub words : length (data_words p) ≡ 11
+  pub word : (k : ℕ) → k < 11 → get_or (data_words p) k 0 ≡ four p (16 + 4 * k)
   -- the name of a symbol
-  pub name : nameIn p ≡ take (byte p 10) (drop 12 p)
-  pub name-from : nameFrom p ≡ take (byte p 10) (drop 12 p)
+  pub name : name_in p ≡ take (byte p 10) (drop 12 p)
+  pub name_from_lem : name_from p ≡ take (byte p 10) (drop 12 p)
   -- the range of a dump by name that reaches the address a
-  pub range-from : (a : ℕ) → rangeFrom p a ≡ record { start = record { 0 = a }; words = two p 64 }
+  pub range_from_lem : (a : ℕ) → range_from p a ≡ record { start = record { 0 = a }; words = two p 64 }
 
 -- COMMANDS, WRITTEN AND READ
 
@@ -106,9 +106,9 @@ pub record CommandWritten (h : Header) (k : Command) (ws p : List ℕ) : Type 0 
   pub bytes : length p ≡ bytes_of k
   pub kind : two p 0 ≡ 7748
   pub sequence : two p 2 ≡ 49152 + h.count
-  pub length-field : two p 4 + 7 ≡ length p
+  pub length_field : two p 4 + 7 ≡ length p
   pub code : byte p 6 ≡ code_in k
-  pub check : xorAll p ≡ 255
+  pub check : xor_all p ≡ 255
   pub identity : two p 8 ≡ 4096 * h.unit + h.transaction
   pub body : Body k ws p
 
@@ -154,7 +154,7 @@ pub record PacketGiven (p : List ℕ) (f : DumpPacket) (part : List ℕ) : Type 
   pub tick : f.tick ≡ four p 8
   pub requested : f.range ≡ record { start = record { 0 = four p 12 }; words = four p 16 }
   pub own : (f.here.0 ≡ four p 20) × (f.words ≡ four p 24)
-  pub handed-back : part ≡ drop 28 p
+  pub handed_back : part ≡ drop 28 p
 
 -- THE OFFSET of a dump by name, 32 bits: as it stands below 2^31, and 2^32 less from there on
 pub record SignedOffset : Type 0 where
@@ -169,24 +169,24 @@ pub record AskedOfCallers : Type 0 where
   pub cancel : CommandFits Cancel
   pub pool : (i : ℕ) → i < 65536 → CommandFits (PoolStatistics i)
   pub value : (n : ℕ) → n < 256 → CommandFits (SymbolValue n)
-  pub by_name : (q : SymbolRequest) → q.name < 256 → q.offset < 4294967296 → q.size < 65536 → CommandFits (DumpSymbol q)
+  pub by_name_lem : (q : SymbolRequest) → q.name < 256 → q.offset < 4294967296 → q.size < 65536 → CommandFits (DumpSymbol q)
   pub slots : (s : State) (c : SlotArgs) → Good s → length c.image ≡ words_in (take s.count s.regions) → 4092 ≤ length c.buffer
       → c.tick < 4294967296 → ((i : ℕ) → i < length c.image → get_or c.image i 0 < 4294967296) → SlotFits s c
   -- of a list of calls only that what is lent as packets are bytes
   pub no_call : LendsBytes []
-  pub command-call : (c : CommandArgs) (cs : List Call) → AreBytes c.packet → LendsBytes cs → LendsBytes (command c ∷ cs)
-  pub slot-call : (c : SlotArgs) (cs : List Call) → LendsBytes cs → LendsBytes (slot c ∷ cs)
+  pub command_call_lem : (c : CommandArgs) (cs : List Call) → AreBytes c.packet → LendsBytes cs → LendsBytes (command c ∷ cs)
+  pub slot_call_lem : (c : SlotArgs) (cs : List Call) → LendsBytes cs → LendsBytes (slot c ∷ cs)
 
 pub record PlainBytes : Type 0 where
-  pub signed-offset : SignedOffset
-  pub asked-of-callers : AskedOfCallers
+  pub signed_offset : SignedOffset
+  pub asked_of_callers : AskedOfCallers
   -- what a command asks of the dump places
   pub asked_is : (c : CommandArgs) → AskedIs c
-  pub header-fields : (p : List ℕ) → AreBytes p → HeaderFields p
-  pub command-fields : (p : List ℕ) → AreBytes p → CommandFields p
-  pub command-written : (h : Header) (k : Command) (ws buffer : List ℕ) → CommandFits k → AreWords ws
-      → answerNumber (writeCommand h k ws buffer).answer ≡ 0
-      → CommandWritten h k ws (take (answerLength (writeCommand h k ws buffer).answer) (writeCommand h k ws buffer).buffer)
-  pub command-read : (p : List ℕ) (f : Telecommand) → AreBytes p → (readCommand p).reading ≡ Read f → CommandGiven p f (readCommand p).words
-  pub packet-written : (s : State) (c : SlotArgs) → SlotFits s c → (x : SlotDone s c (slotCall s c)) → PacketWritten s c x.dump (packetOf s c)
-  pub packet-read : (p : List ℕ) (f : DumpPacket) → AreBytes p → (readPacket p).reading ≡ Packet f → PacketGiven p f (readPacket p).part
+  pub header_fields : (p : List ℕ) → AreBytes p → HeaderFields p
+  pub command_fields : (p : List ℕ) → AreBytes p → CommandFields p
+  pub command_written : (h : Header) (k : Command) (ws buffer : List ℕ) → CommandFits k → AreWords ws
+      → answer_number (write_command h k ws buffer).answer ≡ 0
+      → CommandWritten h k ws (take (answer_length (write_command h k ws buffer).answer) (write_command h k ws buffer).buffer)
+  pub command_read : (p : List ℕ) (f : Telecommand) → AreBytes p → (read_command p).reading ≡ Read f → CommandGiven p f (read_command p).words
+  pub packet_written : (s : State) (c : SlotArgs) → SlotFits s c → (x : SlotDone s c (slot_call s c)) → PacketWritten s c x.dump (packet_of s c)
+  pub packet_read : (p : List ℕ) (f : DumpPacket) → AreBytes p → (read_packet p).reading ≡ Packet f → PacketGiven p f (read_packet p).part

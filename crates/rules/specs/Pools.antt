@@ -1,7 +1,7 @@
 -- Paper 01, "What each command does", and paper 02, A4: the blocks of a pool, their figures, and the reply.
 use Rattle.std.specs.Prelude.{◌≡◌, Bool, true, false, cond, not, List, [], ◌∷◌, ◌++◌, ℕ, zero, suc, ◌+◌, ◌*◌, ◌-◌, ◌%◌, max, leb, eqb, length}
 use Rattle.wire.specs.Bytes.{be}
-use Rattle.rules.specs.Packets.{primaryHeader, identity}
+use Rattle.rules.specs.Packets.{primary_header, identity}
 
 -- BLOCKS
 
@@ -29,12 +29,12 @@ blocks_from (suc k) (w ∷ ws) = blocks_from k ws
 blocks_from zero (w ∷ ws) = cond (eqb (block_of w).size 0) damaged (after (block_of w) (blocks_from ((block_of w).size - 1) ws))
 
 -- the blocks of a pool: they follow each other, and end exactly at its end
-abbrev pub blocksOf : List ℕ → Walk
-blocksOf pool = blocks_from 0 pool
+abbrev pub blocks_of : List ℕ → Walk
+blocks_of pool = blocks_from 0 pool
 
-abbrev pub isDamaged : Walk → Bool
-isDamaged damaged = true
-isDamaged (whole bs) = false
+abbrev pub is_damaged : Walk → Bool
+is_damaged damaged = true
+is_damaged (whole bs) = false
 
 -- THE SAME IN LOGIC
 
@@ -45,11 +45,11 @@ pub data Tiles : List ℕ → List Block → Type 0 where
 
 -- FIGURES, over the blocks that `pick` picks
 
-abbrev pub isUsed : Block → Bool
-isUsed b = b.used
+abbrev pub is_used : Block → Bool
+is_used b = b.used
 
-abbrev pub isFree : Block → Bool
-isFree b = not b.used
+abbrev pub is_free : Block → Bool
+is_free b = not b.used
 
 abbrev pub words : (Block → Bool) → List Block → ℕ
 words pick [] = 0
@@ -70,19 +70,19 @@ usable pick bs = largest pick bs - 1
 
 -- THE REPLY: 32 bytes
 
-abbrev pub replyApid : ℕ
-replyApid = 785
+abbrev pub reply_apid : ℕ
+reply_apid = 785
 
-abbrev pub replyLength : ℕ
-replyLength = 32
+abbrev pub reply_length : ℕ
+reply_length = 32
 
 -- primary header; unit and transaction; pool (16 bits); zero (16); then as words: free words, free blocks, usable words of the largest free
 -- block, used words, used blocks
-unfoldable pub replyBytes : ℕ → ℕ → ℕ → ℕ → List Block → List ℕ
-replyBytes count unit transaction pool bs =
-    primaryHeader 0 0 replyApid count replyLength ++ identity unit transaction ++ be 2 pool ++ be 2 0
-    ++ be 4 (words isFree bs)
-    ++ be 4 (blocks isFree bs)
-    ++ be 4 (usable isFree bs)
-    ++ be 4 (words isUsed bs)
-    ++ be 4 (blocks isUsed bs)
+unfoldable pub reply_bytes : ℕ → ℕ → ℕ → ℕ → List Block → List ℕ
+reply_bytes count unit transaction pool bs =
+    primary_header 0 0 reply_apid count reply_length ++ identity unit transaction ++ be 2 pool ++ be 2 0
+    ++ be 4 (words is_free bs)
+    ++ be 4 (blocks is_free bs)
+    ++ be 4 (usable is_free bs)
+    ++ be 4 (words is_used bs)
+    ++ be 4 (blocks is_used bs)

@@ -3,14 +3,14 @@
 use Rattle.std.specs.Prelude.{◌≡◌, ◌↔◌, true, List, ℕ, ◌+◌, ◌*◌, ◌≤◌, ◌<◌, length, get_or, take}
 use Rattle.lists.specs.Splice.{splice}
 use Rattle.wire.specs.Bytes.{AreBytes, word_bytes}
-use Rattle.rules.specs.Regions.{start_of, imageLength}
-use Rattle.rules.specs.States.{goodState}
-use Rattle.rules.specs.Packets.{packetLength, commandBytes}
-use Rattle.rules.specs.Results.{answerNumber, answerLength}
+use Rattle.rules.specs.Regions.{start_of, image_length}
+use Rattle.rules.specs.States.{good_state}
+use Rattle.rules.specs.Packets.{packet_length, command_bytes}
+use Rattle.rules.specs.Results.{answer_number, answer_length}
 use Rattle.rules.specs.Cases.{FieldsAllowed}
-use Rattle.rules.specs.Slots.{SlotArgs, slotCall, nextWords}
+use Rattle.rules.specs.Slots.{SlotArgs, slot_call, next_words}
 use Rattle.rules.specs.Demand2.{SlotDone}
-use Rattle.rules.specs.Ground.{writeCommand, readCommand, readPacket, packetNumber}
+use Rattle.rules.specs.Ground.{write_command, read_command, read_packet, packet_number}
 use Rattle.rules.specs.declared.Command.{Command}
 use Rattle.rules.specs.declared.Command.TheVariants.{Dump, Cancel, Load, PoolStatistics, SymbolValue, DumpSymbol}
 use Rattle.rules.specs.declared.DumpPacket.{DumpPacket}
@@ -61,7 +61,7 @@ RestZero (DumpSymbol q) ws = (j : ℕ) → q.name ≤ j → letter ws j ≡ 0
 
 -- what the writer asks: room for the packet, and fields within their bounds
 pub record Writes (h : Header) (k : Command) (buffer : List ℕ) : Type 0 where
-  pub room : packetLength k ≤ length buffer
+  pub room : packet_length k ≤ length buffer
   pub unit : h.unit ≤ 15
   pub transaction : h.transaction ≤ 4095
   pub count : h.count ≤ 16383
@@ -69,57 +69,57 @@ pub record Writes (h : Header) (k : Command) (buffer : List ℕ) : Type 0 where
 
 -- what the writer wrote, read: the fields, and the used words
 pub record WriteRead (h : Header) (k : Command) (ws p : List ℕ) : Type 0 where
-  pub fields : (readCommand p).reading ≡ Read (record { header = h; command = k })
-  pub words : UsedSame k (readCommand p).words ws
+  pub fields : (read_command p).reading ≡ Read (record { header = h; command = k })
+  pub words : UsedSame k (read_command p).words ws
 
 -- what the reader read, written: the bytes, exactly if the unused data words of a load, or bytes of a name field, are 0
 abbrev pub ReadWrite : Header → Command → List ℕ → List ℕ → Type 0
 ReadWrite h k p buffer =
-    ((writeCommand h k (readCommand p).words buffer).buffer ≡ splice buffer 0 p)
-    ↔ RestZero k (readCommand p).words
+    ((write_command h k (read_command p).words buffer).buffer ≡ splice buffer 0 p)
+    ↔ RestZero k (read_command p).words
 
 -- DUMP PACKETS
 
 -- what a slot call is lent fits, and is what its types hold
 pub record SlotFits (s : State) (c : SlotArgs) : Type 0 where
-  pub good : goodState s ≡ true
-  pub image : length c.image ≡ imageLength s.regions s.count
+  pub good : good_state s ≡ true
+  pub image : length c.image ≡ image_length s.regions s.count
   pub buffer : 4092 ≤ length c.buffer
   pub tick : c.tick < 4294967296
   pub words : AreWords c.image
 
 -- the packet that a slot call wrote
-abbrev pub packetOf : State → SlotArgs → List ℕ
-packetOf s c = take (answerLength (slotCall s c).answer) (slotCall s c).buffer
+abbrev pub packet_of : State → SlotArgs → List ℕ
+packet_of s c = take (answer_length (slot_call s c).answer) (slot_call s c).buffer
 
 -- what the reader gives of a packet that a slot wrote, in terms of what the slot served
-abbrev pub fields_of : (s : State) (c : SlotArgs) → SlotDone s c (slotCall s c) → DumpPacket
+abbrev pub fields_of : (s : State) (c : SlotArgs) → SlotDone s c (slot_call s c) → DumpPacket
 fields_of s c d =
     record {
       header = record { count = s.packets; unit = s.unit; transaction = d.dump.transaction };
       tick = c.tick;
       range = d.dump.range;
       here = record { 0 = start_of d.dump.range + 4 * d.dump.sent };
-      words = length (nextWords s c.image d.dump);
+      words = length (next_words s c.image d.dump);
     }
 
 pub record ReadBack : Type 0 where
-  pub writes-when : (h : Header) (k : Command) (ws buffer : List ℕ) → (answerNumber (writeCommand h k ws buffer).answer ≡ 0) ↔ Writes h k buffer
-  pub writes-length : (h : Header) (k : Command) (ws buffer : List ℕ) → Writes h k buffer
-      → (answerLength (writeCommand h k ws buffer).answer ≡ packetLength k)
-      × ((writeCommand h k ws buffer).buffer ≡ splice buffer 0 (commandBytes h k ws))
+  pub writes_when : (h : Header) (k : Command) (ws buffer : List ℕ) → (answer_number (write_command h k ws buffer).answer ≡ 0) ↔ Writes h k buffer
+  pub writes_length : (h : Header) (k : Command) (ws buffer : List ℕ) → Writes h k buffer
+      → (answer_length (write_command h k ws buffer).answer ≡ packet_length k)
+      × ((write_command h k ws buffer).buffer ≡ splice buffer 0 (command_bytes h k ws))
   pub write_read : (h : Header) (k : Command) (ws buffer : List ℕ) → CommandFits k → AreWords ws
-      → answerNumber (writeCommand h k ws buffer).answer ≡ 0
-      → WriteRead h k ws (take (packetLength k) (writeCommand h k ws buffer).buffer)
-  pub read-write : (h : Header) (k : Command) (p buffer : List ℕ) → AreBytes p → (readCommand p).reading ≡ Read (record { header = h; command = k })
+      → answer_number (write_command h k ws buffer).answer ≡ 0
+      → WriteRead h k ws (take (packet_length k) (write_command h k ws buffer).buffer)
+  pub read_write : (h : Header) (k : Command) (p buffer : List ℕ) → AreBytes p → (read_command p).reading ≡ Read (record { header = h; command = k })
       → length p ≤ length buffer
-      → (answerNumber (writeCommand h k (readCommand p).words buffer).answer ≡ 0) × ReadWrite h k p buffer
+      → (answer_number (write_command h k (read_command p).words buffer).answer ≡ 0) × ReadWrite h k p buffer
   -- what a slot writes is accepted, and gives back the fields and the data that the slot put there
-  pub slot_read : (s : State) (c : SlotArgs) → SlotFits s c → answerNumber (slotCall s c).answer ≡ 0
-      → (d : SlotDone s c (slotCall s c))
-      × ((readPacket (packetOf s c)).reading ≡ Packet (fields_of s c d))
-      × ((readPacket (packetOf s c)).part ≡ word_bytes (nextWords s c.image d.dump))
+  pub slot_read : (s : State) (c : SlotArgs) → SlotFits s c → answer_number (slot_call s c).answer ≡ 0
+      → (d : SlotDone s c (slot_call s c))
+      × ((read_packet (packet_of s c)).reading ≡ Packet (fields_of s c d))
+      × ((read_packet (packet_of s c)).part ≡ word_bytes (next_words s c.image d.dump))
   -- what is accepted is what some slot writes
-  pub read-slot : (p : List ℕ) → AreBytes p → packetNumber (readPacket p).reading ≡ 0
-      → (s : State) × (c : SlotArgs) × (length s.regions ≡ 16) × (length s.pools ≡ 2) × SlotFits s c × (answerNumber (slotCall s c).answer ≡ 0)
-      × (packetOf s c ≡ p)
+  pub read_slot : (p : List ℕ) → AreBytes p → packet_number (read_packet p).reading ≡ 0
+      → (s : State) × (c : SlotArgs) × (length s.regions ≡ 16) × (length s.pools ≡ 2) × SlotFits s c × (answer_number (slot_call s c).answer ≡ 0)
+      × (packet_of s c ≡ p)

@@ -1,7 +1,7 @@
 -- Paper 01, "Result numbers": the number of each refusal, which refusals are counted, and the lowest number that applies.
 use Rattle.std.specs.Prelude.{Bool, true, false, cond, not, List, [], ◌∷◌, ℕ, ◌+◌, ◌%◌, ltb, eqb, length}
-use Rattle.rules.specs.Regions.{imageLength}
-use Rattle.rules.specs.States.{goodState}
+use Rattle.rules.specs.Regions.{image_length}
+use Rattle.rules.specs.States.{good_state}
 use Rattle.rules.specs.declared.State.{State}
 use Rattle.rules.specs.declared.Refusal.{Refusal}
 use Rattle.rules.specs.declared.Refusal.TheVariants.{BadState, ImageLength, BufferLength, Malformed, OtherApid, UnknownCode, PacketLength, OtherUnit, BadField, OutsideRegions, NoRight, TransactionBusy, PlacesBusy, NotBusy, PoolDamaged, NothingToSend, BadTable, UnknownSymbol, RunsOut}
@@ -55,17 +55,17 @@ counted UnknownSymbol = true
 counted RunsOut = true
 
 -- the number and the length of an answer; a refusal reports length 0
-abbrev pub verdictNumber : Verdict → ℕ
-verdictNumber Accepted = 0
-verdictNumber (Rejected r) = number r
+abbrev pub verdict_number : Verdict → ℕ
+verdict_number Accepted = 0
+verdict_number (Rejected r) = number r
 
-abbrev pub answerNumber : Answer → ℕ
-answerNumber (Refused r) = number r
-answerNumber (Done w) = 0
+abbrev pub answer_number : Answer → ℕ
+answer_number (Refused r) = number r
+answer_number (Done w) = 0
 
-abbrev pub answerLength : Answer → ℕ
-answerLength (Refused r) = 0
-answerLength (Done w) = w.length
+abbrev pub answer_length : Answer → ℕ
+answer_length (Refused r) = 0
+answer_length (Done w) = w.length
 
 -- a row of the table for one call: a refusal, and whether its case applies
 pub record Row : Type 0 where
@@ -82,9 +82,9 @@ lowest [] = Accepted
 lowest (r ∷ rs) = cond r.applies (Rejected r.refusal) (lowest rs)
 
 -- rows 1, 2 and 3, for a call whose buffer must have `size` bytes
-unfoldable pub lentRows : State → List ℕ → ℕ → List ℕ → List Row
-lentRows s image size buffer =
-    row BadState (not (goodState s))
-    ∷ row ImageLength (not (eqb (length image) (imageLength s.regions s.count)))
+unfoldable pub lent_rows : State → List ℕ → ℕ → List ℕ → List Row
+lent_rows s image size buffer =
+    row BadState (not (good_state s))
+    ∷ row ImageLength (not (eqb (length image) (image_length s.regions s.count)))
     ∷ row BufferLength (ltb (length buffer) size)
     ∷ []

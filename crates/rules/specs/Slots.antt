@@ -1,13 +1,13 @@
 -- Paper 01, "Telemetry slots": the slot call, from all that is lent to all that is left.
 use Rattle.std.specs.Prelude.{Bool, true, false, not, cond, List, [], ◌∷◌, ◌++◌, ℕ, ◌+◌, ◌*◌, ◌%◌, ltb, length, take, drop}
-use Rattle.lists.specs.Below.{anyBelow, firstBelow}
+use Rattle.lists.specs.Below.{any_below, first_below}
 use Rattle.lists.specs.Splice.{splice}
 use Rattle.wire.specs.Bytes.{be, word_bytes}
 use Rattle.rules.specs.Regions.{start_of, words_of}
-use Rattle.rules.specs.States.{contextAt, pieceWords}
-use Rattle.rules.specs.Packets.{primaryHeader, identity}
-use Rattle.rules.specs.Commands.{Outcome, setContext}
-use Rattle.rules.specs.Results.{Row, row, lowest, lentRows}
+use Rattle.rules.specs.States.{context_at, piece_words}
+use Rattle.rules.specs.Packets.{primary_header, identity}
+use Rattle.rules.specs.Commands.{Outcome, set_context}
+use Rattle.rules.specs.Results.{Row, row, lowest, lent_rows}
 use Rattle.rules.specs.declared.ActiveDump.{ActiveDump}
 use Rattle.rules.specs.declared.Place.{Place}
 use Rattle.rules.specs.declared.Context.{Context}
@@ -26,49 +26,49 @@ pub record SlotArgs : Type 0 where
   pub image : List ℕ
   pub buffer : List ℕ
 
-abbrev pub isBusy : Context → Bool
-isBusy Idle = false
-isBusy (Busy d) = true
+abbrev pub is_busy : Context → Bool
+is_busy Idle = false
+is_busy (Busy d) = true
 
-unfoldable pub anyBusy : List Place → Bool
-anyBusy ps = anyBelow (λ i. isBusy (contextAt ps i)) 4
+unfoldable pub any_busy : List Place → Bool
+any_busy ps = any_below (λ i. is_busy (context_at ps i)) 4
 
 -- the packet buffer that a slot call needs, and so the longest packet
-abbrev pub longestPacket : ℕ
-longestPacket = 4092
+abbrev pub longest_packet : ℕ
+longest_packet = 4092
 
 -- a slot call's rows of the table of result numbers: 1, 2, 3 and 16
-unfoldable pub slotRows : State → SlotArgs → List Row
-slotRows s c =
-    lentRows s c.image longestPacket c.buffer ++ row NothingToSend (not (anyBusy s.places)) ∷ []
+unfoldable pub slot_rows : State → SlotArgs → List Row
+slot_rows s c =
+    lent_rows s c.image longest_packet c.buffer ++ row NothingToSend (not (any_busy s.places)) ∷ []
 
 -- THE ROUND
 
 -- the place that comes k places after the one after `last`, going round 0, 1, 2, 3
-abbrev pub placeAfter : ℕ → ℕ → ℕ
-placeAfter last k = (last + 1 + k) % 4
+abbrev pub place_after : ℕ → ℕ → ℕ
+place_after last k = (last + 1 + k) % 4
 
 -- the first busy place after the last one served
-unfoldable pub nextPlace : List Place → ℕ → ℕ
-nextPlace ps last = placeAfter last (firstBelow (λ k. isBusy (contextAt ps (placeAfter last k))) 4)
+unfoldable pub next_place : List Place → ℕ → ℕ
+next_place ps last = place_after last (first_below (λ k. is_busy (context_at ps (place_after last k))) 4)
 
 -- THE PACKET
 
-abbrev pub dumpApid : ℕ
-dumpApid = 788
+abbrev pub dump_apid : ℕ
+dump_apid = 788
 
 -- the bytes before the data
-abbrev pub packetHeader : ℕ
-packetHeader = 28
+abbrev pub packet_header : ℕ
+packet_header = 28
 
 -- the data of a dump's next packet: as many words as a packet takes, or what is left, as the image holds them
-unfoldable pub nextWords : State → List ℕ → ActiveDump → List ℕ
-nextWords s image d = take (pieceWords d.range) (drop d.sent (words_of s.regions s.count d.range image))
+unfoldable pub next_words : State → List ℕ → ActiveDump → List ℕ
+next_words s image d = take (piece_words d.range) (drop d.sent (words_of s.regions s.count d.range image))
 
 -- primary header; unit and transaction; tick; requested address; requested words; address of this packet's data; words in this packet; data
-unfoldable pub packetBytes : State → ℕ → ActiveDump → List ℕ → List ℕ
-packetBytes s tick d ws =
-    primaryHeader 0 0 dumpApid s.packets (packetHeader + 4 * length ws) ++ identity s.unit d.transaction ++ be 4 tick
+unfoldable pub packet_bytes : State → ℕ → ActiveDump → List ℕ → List ℕ
+packet_bytes s tick d ws =
+    primary_header 0 0 dump_apid s.packets (packet_header + 4 * length ws) ++ identity s.unit d.transaction ++ be 4 tick
     ++ be 4 (start_of d.range)
     ++ be 4 d.range.words
     ++ be 4 (start_of d.range + 4 * d.sent)
@@ -78,10 +78,10 @@ packetBytes s tick d ws =
 -- THE STATE AFTER
 
 -- what the place of a dump does after its next packet: after the last it is freed
-unfoldable pub afterPacket : ActiveDump → Context
-afterPacket d =
-    cond (ltb (d.sent + pieceWords d.range) d.range.words)
-    (Busy (record { transaction = d.transaction; range = d.range; sent = d.sent + pieceWords d.range }))
+unfoldable pub after_packet : ActiveDump → Context
+after_packet d =
+    cond (ltb (d.sent + piece_words d.range) d.range.words)
+    (Busy (record { transaction = d.transaction; range = d.range; sent = d.sent + piece_words d.range }))
     Idle
 
 -- a state with other places, last place served and packet count; the rest as it was
@@ -102,24 +102,24 @@ served s places last packets =
     }
 
 -- a refusal: all stays as handed in
-abbrev pub refusedSlot : State → SlotArgs → Refusal → Outcome
-refusedSlot s c r = record { answer = Refused r; state = s; image = c.image; buffer = c.buffer }
+abbrev pub refused_slot : State → SlotArgs → Refusal → Outcome
+refused_slot s c r = record { answer = Refused r; state = s; image = c.image; buffer = c.buffer }
 
 -- place p is served
 abbrev pub serve : State → SlotArgs → ℕ → Context → Outcome
-serve s c p Idle = refusedSlot s c NothingToSend
+serve s c p Idle = refused_slot s c NothingToSend
 serve s c p (Busy d) =
     record {
-      answer = Done (record { length = length (packetBytes s c.tick d (nextWords s c.image d)) });
-      state = served s (setContext s.places p (afterPacket d)) p ((s.packets + 1) % 16384);
+      answer = Done (record { length = length (packet_bytes s c.tick d (next_words s c.image d)) });
+      state = served s (set_context s.places p (after_packet d)) p ((s.packets + 1) % 16384);
       image = c.image;
-      buffer = splice c.buffer 0 (packetBytes s c.tick d (nextWords s c.image d));
+      buffer = splice c.buffer 0 (packet_bytes s c.tick d (next_words s c.image d));
     }
 
-abbrev pub concludeSlot : State → SlotArgs → Verdict → Outcome
-concludeSlot s c (Rejected r) = refusedSlot s c r
-concludeSlot s c Accepted = serve s c (nextPlace s.places s.last) (contextAt s.places (nextPlace s.places s.last))
+abbrev pub conclude_slot : State → SlotArgs → Verdict → Outcome
+conclude_slot s c (Rejected r) = refused_slot s c r
+conclude_slot s c Accepted = serve s c (next_place s.places s.last) (context_at s.places (next_place s.places s.last))
 
 -- THE SLOT CALL
-unfoldable pub slotCall : State → SlotArgs → Outcome
-slotCall s c = concludeSlot s c (lowest (slotRows s c))
+unfoldable pub slot_call : State → SlotArgs → Outcome
+slot_call s c = conclude_slot s c (lowest (slot_rows s c))

@@ -8,14 +8,14 @@ use lib.ListN.{length}
 use Rattle.lists.specs.Splice.{splice}
 use Rattle.lists.proofs.Tests.{either}
 use Rattle.rules.specs.declared.DumpPacket.{DumpPacket}
-use Rattle.bulk.specs.DumpBytes.{dumpPacketBytes, PacketFits, packetFits}
-use Rattle.bulk.proofs.Packet.{test_fits, test-fails}
+use Rattle.bulk.specs.DumpBytes.{dump_packet_bytes, PacketFits, packet_fits}
+use Rattle.bulk.proofs.Packet.{test_fits, test_fails}
 
 -- a packet
-pub packet-put : (f : DumpPacket) (ws buffer : List ℕ) {r : List ℕ}
-    → (PacketFits f ws buffer → r ≡ splice buffer 0 (dumpPacketBytes f ws)) × ((PacketFits f ws buffer → ⊥) → r ≡ buffer)
-    → r ≡ cond (packetFits f (length ws) (length buffer)) (splice buffer 0 (dumpPacketBytes f ws)) buffer
-packet-put f ws buffer h =
-    either (packetFits f (length ws) (length buffer))
+pub packet_put : (f : DumpPacket) (ws buffer : List ℕ) {r : List ℕ}
+    → (PacketFits f ws buffer → r ≡ splice buffer 0 (dump_packet_bytes f ws)) × ((PacketFits f ws buffer → ⊥) → r ≡ buffer)
+    → r ≡ cond (packet_fits f (length ws) (length buffer)) (splice buffer 0 (dump_packet_bytes f ws)) buffer
+packet_put f ws buffer h =
+    either (packet_fits f (length ws) (length buffer))
     (λ e. rw e (h.0 (test_fits f ws buffer {t = true} (sym e) refl)))
-    (λ e. rw e (h.1 (test-fails f ws buffer {t = false} (sym e) refl)))
+    (λ e. rw e (h.1 (test_fails f ws buffer {t = false} (sym e) refl)))

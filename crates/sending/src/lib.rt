@@ -2,7 +2,7 @@
 ghost use Rattle.std.specs.Prelude.{◌≡◌, ◌+◌, ◌*◌, ◌-◌, ◌%◌, min};
 ghost use Rattle.rules.specs.declared.Refusal.TheVariants.{NothingToSend};
 ghost use Rattle.sending.specs.declared.Sending.TheVariants.{Keep};
-ghost use Rattle.sending.specs.Sendings.{decideSend, sendAnswer, bufferAfter, SlotDecided};
+ghost use Rattle.sending.specs.Sendings.{decide_send, send_answer, buffer_after, SlotDecided};
 
 use bulk::{put_packet, word_after, words_at};
 use places::{Seat, after_packet};
@@ -57,7 +57,7 @@ pub fn nothing_to_send() -> Sending
 
 // The next packet of the dump whose turn it is: `first` is the index in the image of its range's first word, `count` the packet count of the dumps.
 pub fn send(seat: Seat, found: Found, first: WordIndex, count: u16, unit: u8, tick: u32) -> Sending
-    ensures { result ≡ decideSend seat found first count unit tick }
+    ensures { result ≡ decide_send seat found first count unit tick }
 {
     let d = seat.dump;
     match found {
@@ -94,7 +94,7 @@ pub fn send(seat: Seat, found: Found, first: WordIndex, count: u16, unit: u8, ti
 
 // The answer to a slot, with the packet in the buffer.
 pub fn send_out(d: Sending, image: &[u32], buffer: &mut [u8]) -> Answer
-    ensures { (result ≡ sendAnswer d) × (buffer.new ≡ bufferAfter d image.now buffer.old) }
+    ensures { (result ≡ send_answer d) × (buffer.new ≡ buffer_after d image.now buffer.old) }
 {
     match d {
         Sending::Keep(r) => Answer::Refused(r),

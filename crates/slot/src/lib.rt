@@ -1,11 +1,11 @@
 // The slot call on a State: the next packet of the dump whose turn it is, or 1, 2, 3 or 16.
 ghost use Rattle.std.specs.Prelude.{◌≡◌, true, cond, List, ℕ, length};
-ghost use Rattle.rules.specs.Regions.{imageLength};
-ghost use Rattle.rules.specs.States.{goodState};
+ghost use Rattle.rules.specs.Regions.{image_length};
+ghost use Rattle.rules.specs.States.{good_state};
 ghost use Rattle.rules.specs.Commands.{returned};
-ghost use Rattle.rules.specs.Slots.{slotCall};
-ghost use Rattle.places.specs.Turns.{nextTurn};
-ghost use Rattle.sending.specs.Sendings.{byTurn, sending, stateSent, PlaceFits};
+ghost use Rattle.rules.specs.Slots.{slot_call};
+ghost use Rattle.places.specs.Turns.{next_turn};
+ghost use Rattle.sending.specs.Sendings.{by_turn, sending, state_sent, PlaceFits};
 
 use opening::lent_verdict;
 use places::{Turn, next_turn, set_context};
@@ -15,7 +15,7 @@ use state::{find, good_words, index};
 
 // The decision on a slot of a good state.
 fn by_turn(s: State, tick: u32) -> Sending
-    ensures { goodState s ≡ true → result ≡ byTurn s tick (nextTurn s.places s.last) }
+    ensures { good_state s ≡ true → result ≡ by_turn s tick (next_turn s.places s.last) }
 {
     let ps = s.places;
     let turn = next_turn(ps, s.last);
@@ -32,7 +32,7 @@ fn by_turn(s: State, tick: u32) -> Sending
 
 // The decision on a slot: what the call would send. `good` is what the good state's test answers.
 fn decide(s: State, good: usize, tick: u32, image: usize, buffer: usize) -> Sending
-    ensures { (words bytes : List ℕ) → good ≡ cond (goodState s) (imageLength s.regions s.count) 0 → length words ≡ image → length bytes ≡ buffer → result ≡ sending s (record { tick = tick; image = words; buffer = bytes }) }
+    ensures { (words bytes : List ℕ) → good ≡ cond (good_state s) (image_length s.regions s.count) 0 → length words ≡ image → length bytes ≡ buffer → result ≡ sending s (record { tick = tick; image = words; buffer = bytes }) }
 {
     let lent = lent_verdict(good, image, 4092, buffer);
     match lent {
@@ -43,7 +43,7 @@ fn decide(s: State, good: usize, tick: u32, image: usize, buffer: usize) -> Send
 
 // The state after a decision.
 fn applied(s: State, d: Sending) -> State
-    ensures { PlaceFits d → result ≡ stateSent s d }
+    ensures { PlaceFits d → result ≡ state_sent s d }
 {
     match d {
         Sending::Keep(_) => s,
@@ -62,7 +62,7 @@ fn applied(s: State, d: Sending) -> State
 
 // The slot call. The image stays as it is.
 pub fn slot(s: State, tick: u32, image: &[u32], buffer: &mut [u8]) -> Returned
-    ensures { (result ≡ returned (slotCall s (record { tick = tick; image = image.now; buffer = buffer.old }))) × (buffer.new ≡ (slotCall s (record { tick = tick; image = image.now; buffer = buffer.old })).buffer) }
+    ensures { (result ≡ returned (slot_call s (record { tick = tick; image = image.now; buffer = buffer.old }))) × (buffer.new ≡ (slot_call s (record { tick = tick; image = image.now; buffer = buffer.old })).buffer) }
 {
     let d = decide(s, good_words(s), tick, image.len(), buffer.len());
     let answer = send_out(d, image, buffer);

@@ -12,8 +12,8 @@ use lib.Seq.{set_at, take-suc, length-take-le, append_snoc}
 use borrow.Author.Tests.{not-true, not-false, leb-true}
 use Rattle.lists.proofs.Tests.{either, and_left}
 use Rattle.lists.proofs.Below.{all_of}
-use Rattle.rules.specs.Regions.{noRegion, regionAt, aligned, dumpRight, inOneRegion, tableRules, imageLength}
-use Rattle.rules.specs.States.{poolAt, poolRules, startRules, entriesUsed, freshState, noState, startUp, dumpRules, contextAt, apart, placeRules, placesRules, countRules, goodState}
+use Rattle.rules.specs.Regions.{no_region, region_at, aligned, dump_right, in_one_region, table_rules, image_length}
+use Rattle.rules.specs.States.{pool_at, pool_rules, start_rules, entries_used, fresh_state, no_state, start_up, dump_rules, context_at, apart, place_rules, places_rules, count_rules, good_state}
 use Rattle.rules.specs.declared.ActiveDump.{ActiveDump}
 use Rattle.rules.specs.declared.Context.TheVariants.{Idle, Busy}
 use Rattle.rules.specs.declared.Place.{Place}
@@ -22,36 +22,36 @@ use Rattle.rules.specs.declared.Refusal.TheVariants.{BadTable}
 use Rattle.rules.specs.declared.Region.{Region}
 use Rattle.rules.specs.declared.State.{State}
 use Rattle.rules.specs.declared.Verdict.TheVariants.{Accepted, Rejected}
-use Rattle.places.specs.Turns.{dumpFields, firstWithin}
-use Rattle.places.proofs.Answers.{apart-before}
+use Rattle.places.specs.Turns.{dump_fields, first_within}
+use Rattle.places.proofs.Answers.{apart_before}
 
 -- WHAT START-UP TESTS
 
 -- the test of start-up with the table's test apart
-start-parts : (rs : List Region) (n : ℕ) (ps : List Range) (unit : ℕ)
-    → startRules rs n ps unit ≡ (tableRules rs n && (poolRules rs n (poolAt ps 0) && poolRules rs n (poolAt ps 1) && leb unit 15))
-unfolding startRules
-start-parts rs n ps unit = either (tableRules rs n) (λ h. rw h) (λ h. rw h)
+start_parts : (rs : List Region) (n : ℕ) (ps : List Range) (unit : ℕ)
+    → start_rules rs n ps unit ≡ (table_rules rs n && (pool_rules rs n (pool_at ps 0) && pool_rules rs n (pool_at ps 1) && leb unit 15))
+unfolding start_rules
+start_parts rs n ps unit = either (table_rules rs n) (λ h. rw h) (λ h. rw h)
 
 module _ (rs : List Region) (n : ℕ) (ps : List Range) (unit : ℕ) where
-  pub start-table : startRules rs n ps unit ≡ true → tableRules rs n ≡ true
-  start-table h = and_left (tableRules rs n) _ (sym (start-parts rs n ps unit) ∙ h)
+  pub start_table : start_rules rs n ps unit ≡ true → table_rules rs n ≡ true
+  start_table h = and_left (table_rules rs n) _ (sym (start_parts rs n ps unit) ∙ h)
 
   -- a table that breaks a rule
-  pub start-no-table : tableRules rs n ≡ false → 0 ≡ cond (startRules rs n ps unit) (imageLength rs n) 0
-  start-no-table h = rw (start-parts rs n ps unit, h)
+  pub start_no_table : table_rules rs n ≡ false → 0 ≡ cond (start_rules rs n ps unit) (image_length rs n) 0
+  start_no_table h = rw (start_parts rs n ps unit, h)
 
   -- a table by the rules, with its pools and its unit
-  module _ (table : tableRules rs n ≡ true) (p q : Bool) (ep : tableRules rs n ≡ true → p ≡ poolRules rs n (poolAt ps 0))
-      (eq : tableRules rs n ≡ true → q ≡ poolRules rs n (poolAt ps 1)) where
-    start-rest : startRules rs n ps unit ≡ (p && q && leb unit 15)
-    start-rest = rw (start-parts rs n ps unit, table, ep table, eq table)
+  module _ (table : table_rules rs n ≡ true) (p q : Bool) (ep : table_rules rs n ≡ true → p ≡ pool_rules rs n (pool_at ps 0))
+      (eq : table_rules rs n ≡ true → q ≡ pool_rules rs n (pool_at ps 1)) where
+    start_rest : start_rules rs n ps unit ≡ (p && q && leb unit 15)
+    start_rest = rw (start_parts rs n ps unit, table, ep table, eq table)
 
-    pub start-broken : not (p && q && leb unit 15) ≡ true → 0 ≡ cond (startRules rs n ps unit) (imageLength rs n) 0
-    start-broken h = rw (start-rest, not-true (p && q && leb unit 15) h)
+    pub start_broken : not (p && q && leb unit 15) ≡ true → 0 ≡ cond (start_rules rs n ps unit) (image_length rs n) 0
+    start_broken h = rw (start_rest, not-true (p && q && leb unit 15) h)
 
-    pub start-kept : not (p && q && leb unit 15) ≡ false → imageLength rs n ≡ cond (startRules rs n ps unit) (imageLength rs n) 0
-    start-kept h = rw (start-rest, not-false (p && q && leb unit 15) h)
+    pub start_kept : not (p && q && leb unit 15) ≡ false → image_length rs n ≡ cond (start_rules rs n ps unit) (image_length rs n) 0
+    start_kept h = rw (start_rest, not-false (p && q && leb unit 15) h)
 
 -- A DUMP: the code tests the region last
 
@@ -65,10 +65,10 @@ moved true false true false = refl
 moved true false false f = refl
 
 -- where the fields are by the rules the range has a word, so that the region that holds it decides
-pub dump-tested : (rs : List Region) (n : ℕ) (d : ActiveDump) (fields dump : Bool) → fields ≡ dumpFields d
-    → (1 ≤ d.range.words → dump ≡ inOneRegion dumpRight rs n d.range) → (fields && dump) ≡ dumpRules rs n d
-unfolding dumpFields dumpRules
-dump-tested rs n d fields dump ef ed =
+pub dump_tested : (rs : List Region) (n : ℕ) (d : ActiveDump) (fields dump : Bool) → fields ≡ dump_fields d
+    → (1 ≤ d.range.words → dump ≡ in_one_region dump_right rs n d.range) → (fields && dump) ≡ dump_rules rs n d
+unfolding dump_fields dump_rules
+dump_tested rs n d fields dump ef ed =
     either (leb 1 d.range.words)
     (λ h. rw (ef, ed (leb-true 1 d.range.words h))
     (moved (leb d.transaction 4095 && leb 1 d.range.words && leb d.range.words 65535 && aligned d.range) _ _ _))
@@ -77,65 +77,65 @@ dump-tested rs n d fields dump ef ed =
 -- A PLACE
 
 module _ (rs : List Region) (n : ℕ) (ps : List Place) (i : ℕ) where
-  pub place-idle : contextAt ps i ≡ Idle → true ≡ placeRules rs n ps i
-  place-idle e = rw e (sym (all_of (λ j. apart Idle (contextAt ps j)) i (λ j l. refl)))
+  pub place_idle : context_at ps i ≡ Idle → true ≡ place_rules rs n ps i
+  place_idle e = rw e (sym (all_of (λ j. apart Idle (context_at ps j)) i (λ j l. refl)))
 
-  pub place-busy : (d : ActiveDump) → contextAt ps i ≡ Busy d → (b : Bool) → b ≡ dumpRules rs n d → (k : ℕ) → k ≡ firstWithin ps d.transaction i
-      → (b && eqb k i) ≡ placeRules rs n ps i
-  place-busy d e b eb k ek = rw (e, eb, ek, apart-before ps d i)
+  pub place_busy : (d : ActiveDump) → context_at ps i ≡ Busy d → (b : Bool) → b ≡ dump_rules rs n d → (k : ℕ) → k ≡ first_within ps d.transaction i
+      → (b && eqb k i) ≡ place_rules rs n ps i
+  place_busy d e b eb k ek = rw (e, eb, ek, apart_before ps d i)
 
 -- THE GOOD STATE
 
-good-parts : (s : State)
-    → goodState s ≡ (startRules s.regions s.count s.pools s.unit && (countRules s && placesRules s.regions s.count s.places))
-unfolding goodState
-good-parts s = either (startRules s.regions s.count s.pools s.unit) (λ h. rw h) (λ h. rw h)
+good_parts : (s : State)
+    → good_state s ≡ (start_rules s.regions s.count s.pools s.unit && (count_rules s && places_rules s.regions s.count s.places))
+unfolding good_state
+good_parts s = either (start_rules s.regions s.count s.pools s.unit) (λ h. rw h) (λ h. rw h)
 
 module _ (s : State) where
-  pub good_start : goodState s ≡ true → startRules s.regions s.count s.pools s.unit ≡ true
-  good_start h = and_left (startRules s.regions s.count s.pools s.unit) _ (sym (good-parts s) ∙ h)
+  pub good_start : good_state s ≡ true → start_rules s.regions s.count s.pools s.unit ≡ true
+  good_start h = and_left (start_rules s.regions s.count s.pools s.unit) _ (sym (good_parts s) ∙ h)
 
-  pub good-no-start : startRules s.regions s.count s.pools s.unit ≡ false
-      → 0 ≡ cond (goodState s) (imageLength s.regions s.count) 0
-  good-no-start h = rw (good-parts s, h)
+  pub good_no_start : start_rules s.regions s.count s.pools s.unit ≡ false
+      → 0 ≡ cond (good_state s) (image_length s.regions s.count) 0
+  good_no_start h = rw (good_parts s, h)
 
-  module _ (start : startRules s.regions s.count s.pools s.unit ≡ true) (b c : Bool) (eb : b ≡ countRules s)
-      (ec : tableRules s.regions s.count ≡ true → c ≡ placesRules s.regions s.count s.places) where
-    good-rest : goodState s ≡ (b && c)
-    good-rest = rw (good-parts s, start, eb, ec (start-table s.regions s.count s.pools s.unit start))
+  module _ (start : start_rules s.regions s.count s.pools s.unit ≡ true) (b c : Bool) (eb : b ≡ count_rules s)
+      (ec : table_rules s.regions s.count ≡ true → c ≡ places_rules s.regions s.count s.places) where
+    good_rest : good_state s ≡ (b && c)
+    good_rest = rw (good_parts s, start, eb, ec (start_table s.regions s.count s.pools s.unit start))
 
-    pub good-broken : not (b && c) ≡ true → 0 ≡ cond (goodState s) (imageLength s.regions s.count) 0
-    good-broken h = rw (good-rest, not-true (b && c) h)
+    pub good_broken : not (b && c) ≡ true → 0 ≡ cond (good_state s) (image_length s.regions s.count) 0
+    good_broken h = rw (good_rest, not-true (b && c) h)
 
-    pub good-kept : not (b && c) ≡ false → imageLength s.regions s.count ≡ cond (goodState s) (imageLength s.regions s.count) 0
-    good-kept h = rw (good-rest, not-false (b && c) h)
+    pub good_kept : not (b && c) ≡ false → image_length s.regions s.count ≡ cond (good_state s) (image_length s.regions s.count) 0
+    good_kept h = rw (good_rest, not-false (b && c) h)
 
 -- START-UP
 
 -- the loop that copies the entries in use
 module _ (rs : List Region) where
-  pub used-none : replicate 16 noRegion ≡ entriesUsed rs 0
-  unfolding entriesUsed
-  used-none = refl
+  pub used_none : replicate 16 no_region ≡ entries_used rs 0
+  unfolding entries_used
+  used_none = refl
 
-  pub used-more : (i : ℕ) → length rs ≡ 16 → i < 16 → set (entriesUsed rs i) i (regionAt rs i) ≡ entriesUsed rs (i + 1)
-  unfolding entriesUsed
-  used-more i l h =
+  pub used_more : (i : ℕ) → length rs ≡ 16 → i < 16 → set (entries_used rs i) i (region_at rs i) ≡ entries_used rs (i + 1)
+  unfolding entries_used
+  used_more i l h =
       let e : 16 - i ≡ suc (16 - (i + 1)) = omega arith in
       rw (
         e,
-        set_at (take i rs) noRegion (replicate (16 - (i + 1)) noRegion) (regionAt rs i) i (length-take-le i rs (omega arith)),
+        set_at (take i rs) no_region (replicate (16 - (i + 1)) no_region) (region_at rs i) i (length-take-le i rs (omega arith)),
         add-one,
-        take-suc rs i noRegion (omega arith),
+        take-suc rs i no_region (omega arith),
         append_snoc,
       )
 
 module _ (rs : List Region) (n : ℕ) (ps : List Range) (unit : ℕ) where
-  pub start-refused : startRules rs n ps unit ≡ false → (s : State) → s ≡ noState → record { verdict = Rejected BadTable; state = s } ≡ startUp rs n ps unit
-  unfolding startUp
-  start-refused h s es = rw (h, es)
+  pub start_refused : start_rules rs n ps unit ≡ false → (s : State) → s ≡ no_state → record { verdict = Rejected BadTable; state = s } ≡ start_up rs n ps unit
+  unfolding start_up
+  start_refused h s es = rw (h, es)
 
-  pub start-accepted : startRules rs n ps unit ≡ true → (used : List Region) → used ≡ entriesUsed rs n → (s : State) → s ≡ freshState used n ps unit
-      → record { verdict = Accepted; state = s } ≡ startUp rs n ps unit
-  unfolding startUp
-  start-accepted h used eu s es = rw (h, es, eu)
+  pub start_accepted : start_rules rs n ps unit ≡ true → (used : List Region) → used ≡ entries_used rs n → (s : State) → s ≡ fresh_state used n ps unit
+      → record { verdict = Accepted; state = s } ≡ start_up rs n ps unit
+  unfolding start_up
+  start_accepted h used eu s es = rw (h, es, eu)

@@ -1,8 +1,8 @@
 // The good state, start-up, and the lookup.
 ghost use Rattle.std.specs.Prelude.{◌≡◌, true, cond, ◌≤◌};
-ghost use Rattle.rules.specs.Regions.{tableRules, imageLength};
-ghost use Rattle.rules.specs.States.{poolRules, startRules, entriesUsed, freshState, noState, startUp, dumpRules, placeRules, placesRules, countRules, goodState};
-ghost use Rattle.regions.specs.Lookup.{findRegion, foundIndex};
+ghost use Rattle.rules.specs.Regions.{table_rules, image_length};
+ghost use Rattle.rules.specs.States.{pool_rules, start_rules, entries_used, fresh_state, no_state, start_up, dump_rules, place_rules, places_rules, count_rules, good_state};
+ghost use Rattle.regions.specs.Lookup.{find_region, found_index};
 
 use places::{context_at, dump_fields, first_with};
 use regions::{Found, can_dump, find_region, table_words, word_index};
@@ -12,7 +12,7 @@ use rules::{
 
 // Whether a pool is none, or by the rules. The table is by the rules.
 fn pool_rules(rs: [Region; 16], n: usize, p: Range) -> bool
-    ensures { tableRules rs n ≡ true → result ≡ poolRules rs n p }
+    ensures { table_rules rs n ≡ true → result ≡ pool_rules rs n p }
 {
     if p.words == 0 {
         return p.start.0 == 0;
@@ -22,7 +22,7 @@ fn pool_rules(rs: [Region; 16], n: usize, p: Range) -> bool
 
 // The words of the image where start-up takes the table, the pools and the unit, else 0.
 fn start_words(rs: [Region; 16], n: usize, ps: [Range; 2], unit: u8) -> usize
-    ensures { result ≡ cond (startRules rs n ps unit) (imageLength rs n) 0 }
+    ensures { result ≡ cond (start_rules rs n ps unit) (image_length rs n) 0 }
 {
     let words = table_words(rs, n);
     if words == 0 {
@@ -38,14 +38,14 @@ fn start_words(rs: [Region; 16], n: usize, ps: [Range; 2], unit: u8) -> usize
 
 // The table is by the rules.
 fn dump_rules(rs: [Region; 16], n: usize, d: ActiveDump) -> bool
-    ensures { tableRules rs n ≡ true → result ≡ dumpRules rs n d }
+    ensures { table_rules rs n ≡ true → result ≡ dump_rules rs n d }
 {
     let range = d.range;
     dump_fields(d) & can_dump(find_region(rs, n, range))
 }
 
 fn place_rules(rs: [Region; 16], n: usize, ps: [Place; 4], i: usize) -> bool
-    ensures { tableRules rs n ≡ true → result ≡ placeRules rs n ps i }
+    ensures { table_rules rs n ≡ true → result ≡ place_rules rs n ps i }
 {
     let c = context_at(ps, i);
     match c {
@@ -55,7 +55,7 @@ fn place_rules(rs: [Region; 16], n: usize, ps: [Place; 4], i: usize) -> bool
 }
 
 fn places_rules(rs: [Region; 16], n: usize, ps: [Place; 4]) -> bool
-    ensures { tableRules rs n ≡ true → result ≡ placesRules rs n ps }
+    ensures { table_rules rs n ≡ true → result ≡ places_rules rs n ps }
 {
     place_rules(rs, n, ps, 0)
         & place_rules(rs, n, ps, 1)
@@ -64,7 +64,7 @@ fn places_rules(rs: [Region; 16], n: usize, ps: [Place; 4]) -> bool
 }
 
 fn count_rules(s: State) -> bool
-    ensures { result ≡ countRules s }
+    ensures { result ≡ count_rules s }
 {
     (s.last <= 3)
         & (s.replies <= 16383)
@@ -76,7 +76,7 @@ fn count_rules(s: State) -> bool
 
 // The words of the image of a good state, which has at least one; else 0.
 pub fn good_words(s: State) -> usize
-    ensures { result ≡ cond (goodState s) (imageLength s.regions s.count) 0 }
+    ensures { result ≡ cond (good_state s) (image_length s.regions s.count) 0 }
 {
     let rs = s.regions;
     let n = s.count;
@@ -95,7 +95,7 @@ pub fn good_words(s: State) -> usize
 // The first n entries, and the rest unused.
 fn entries_used(rs: [Region; 16], n: usize) -> [Region; 16]
     requires { n ≤ 16 }
-    ensures { result ≡ entriesUsed rs n }
+    ensures { result ≡ entries_used rs n }
 {
     let none = Region {
         range: Range {
@@ -115,7 +115,7 @@ fn entries_used(rs: [Region; 16], n: usize) -> [Region; 16]
 }
 
 fn fresh_state(rs: [Region; 16], n: usize, ps: [Range; 2], unit: u8) -> State
-    ensures { result ≡ freshState rs n ps unit }
+    ensures { result ≡ fresh_state rs n ps unit }
 {
     let idle = Place {
         context: Context::Idle,
@@ -136,7 +136,7 @@ fn fresh_state(rs: [Region; 16], n: usize, ps: [Range; 2], unit: u8) -> State
 }
 
 fn no_state() -> State
-    ensures { result ≡ noState }
+    ensures { result ≡ no_state }
 {
     let range = Range {
         start: Address(0),
@@ -154,7 +154,7 @@ fn no_state() -> State
 
 // Start-up with the first n entries of a table, the pools and the unit: the state, or 17.
 pub fn start_up(rs: [Region; 16], n: usize, ps: [Range; 2], unit: u8) -> Started
-    ensures { result ≡ startUp rs n ps unit }
+    ensures { result ≡ start_up rs n ps unit }
 {
     if start_words(rs, n, ps, unit) == 0 {
         let state = no_state();
@@ -175,7 +175,7 @@ pub fn start_up(rs: [Region; 16], n: usize, ps: [Range; 2], unit: u8) -> Started
 
 // The region that holds a range, or how it missed. Right in a good state.
 pub fn find(s: State, a: Range) -> Found
-    ensures { goodState s ≡ true → result ≡ findRegion s.regions s.count a }
+    ensures { good_state s ≡ true → result ≡ find_region s.regions s.count a }
 {
     let rs = s.regions;
     find_region(rs, s.count, a)
@@ -183,7 +183,7 @@ pub fn find(s: State, a: Range) -> Found
 
 // Where a range that was found begins in the image.
 pub fn index(s: State, a: Range, found: Found) -> WordIndex
-    ensures { result ≡ foundIndex s.regions a found }
+    ensures { result ≡ found_index s.regions a found }
 {
     let rs = s.regions;
     match found {

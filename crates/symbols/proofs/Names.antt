@@ -11,25 +11,25 @@ use lib.Seq.{ext_get_or}
 use borrow.Author.Tests.{eqb-true, eq-eqb}
 use Rattle.lists.specs.Below.{all_below}
 use Rattle.lists.proofs.Tests.{either, and_left, and_right, and_both}
-use Rattle.lists.proofs.Below.{all-at, all_of}
+use Rattle.lists.proofs.Below.{all_at, all_of}
 use Rattle.symbols.specs.Table.{same_name}
 
-abbrev sameBytes : List ℕ → List ℕ → ℕ → Bool
-sameBytes a b j = eqb (get_or a j 0) (get_or b j 0)
+abbrev same_bytes : List ℕ → List ℕ → ℕ → Bool
+same_bytes a b j = eqb (get_or a j 0) (get_or b j 0)
 
 module _ (a b : List ℕ) where
   pub same_out : same_name a b ≡ true → a ≡ b
   same_out h =
-      ext_get_or 0 a b (eqb-true _ _ (and_left (eqb (length a) (length b)) (all_below (sameBytes a b) (length a)) h))
-      (λ j l. eqb-true _ _ (all-at (sameBytes a b) (length a) (and_right (eqb (length a) (length b)) (all_below (sameBytes a b) (length a)) h) l))
+      ext_get_or 0 a b (eqb-true _ _ (and_left (eqb (length a) (length b)) (all_below (same_bytes a b) (length a)) h))
+      (λ j l. eqb-true _ _ (all_at (same_bytes a b) (length a) (and_right (eqb (length a) (length b)) (all_below (same_bytes a b) (length a)) h) l))
 
   pub same_in : a ≡ b → same_name a b ≡ true
   same_in e =
       and_both (eq-eqb (length a) (length b) (ap length e))
-      (all_of (sameBytes a b) (length a) (λ j l. eq-eqb _ _ (ap (λ (s : List ℕ). get_or s j 0) e)))
+      (all_of (same_bytes a b) (length a) (λ j l. eq-eqb _ _ (ap (λ (s : List ℕ). get_or s j 0) e)))
 
-  pub same-name : (same_name a b ≡ true) ↔ (a ≡ b)
-  same-name = (same_out, same_in)
+  pub same_name_lem : (same_name a b ≡ true) ↔ (a ≡ b)
+  same_name_lem = (same_out, same_in)
 
-  pub apart-name : (a ≡ b → ⊥) → same_name a b ≡ false
-  apart-name f = either (same_name a b) (λ h. absurd (f (same_out h))) (λ h. h)
+  pub apart_name : (a ≡ b → ⊥) → same_name a b ≡ false
+  apart_name f = either (same_name a b) (λ h. absurd (f (same_out h))) (λ h. h)

@@ -6,61 +6,61 @@ use mathlib.Core.List.{List}
 use Prim.Native.Nat.{ℕ}
 use native.Mathlib.Omega.{arith}
 use Rattle.lists.proofs.Tests.{either, contra}
-use Rattle.symbols.specs.Answers.{foundIn, symbol_of, SymbolNumbers}
-use Rattle.symbols.specs.Table.{symbolTable, hasName, value_of, IsTable, Named}
+use Rattle.symbols.specs.Answers.{found_in, symbol_of, SymbolNumbers}
+use Rattle.symbols.specs.Table.{symbol_table, has_name, value_of, IsTable, Named}
 use Rattle.symbols.specs.declared.Symbol.{Symbol}
 use Rattle.symbols.specs.declared.Symbol.TheVariants.{NoTable, Unknown, Value}
-use Rattle.symbols.proofs.Logic.{table-when, resolves-when}
+use Rattle.symbols.proofs.Logic.{table_when, resolves_when}
 
 module _ (t name : List ℕ) where
-  none-there : symbolTable t ≡ false → symbol_of t name ≡ NoTable
+  none_there : symbol_table t ≡ false → symbol_of t name ≡ NoTable
   unfolding symbol_of
-  none-there e = rw e
+  none_there e = rw e
 
-  not_there : symbolTable t ≡ true → hasName t name ≡ false → symbol_of t name ≡ Unknown
-  unfolding symbol_of foundIn
+  not_there : symbol_table t ≡ true → has_name t name ≡ false → symbol_of t name ≡ Unknown
+  unfolding symbol_of found_in
   not_there e h = rw (e, h)
 
-  there : symbolTable t ≡ true → hasName t name ≡ true → symbol_of t name ≡ Value (value_of t name)
-  unfolding symbol_of foundIn
+  there : symbol_table t ≡ true → has_name t name ≡ true → symbol_of t name ≡ Value (value_of t name)
+  unfolding symbol_of found_in
   there e h = rw (e, h)
 
   apart : {v : ℕ} → NoTable ≡ Value v → ⊥
   apart e = let z : ◌≡◌ {A = ℕ} 0 1 = cc in omega arith
 
-  unknown-apart : {v : ℕ} → Unknown ≡ Value v → ⊥
-  unknown-apart e = let z : ◌≡◌ {A = ℕ} 0 1 = cc in omega arith
+  unknown_apart : {v : ℕ} → Unknown ≡ Value v → ⊥
+  unknown_apart e = let z : ◌≡◌ {A = ℕ} 0 1 = cc in omega arith
 
-  same-value : {v w : ℕ} → Value v ≡ Value w → v ≡ w
-  same-value e = cc
+  same_value : {v w : ℕ} → Value v ≡ Value w → v ≡ w
+  same_value e = cc
 
-  with_none : symbolTable t ≡ false → SymbolNumbers t name (symbol_of t name)
+  with_none : symbol_table t ≡ false → SymbolNumbers t name (symbol_of t name)
   with_none e =
-      rw (none-there e)
+      rw (none_there e)
       (record {
-        no_table = (λ z i. contra ((table-when t).1 i) e, λ n. refl);
-        unknown = (λ z. absurd (omega arith), λ (i, n). absurd (contra ((table-when t).1 i) e));
-        value = λ v. (λ z. absurd (apart z), λ (i, n). absurd (contra ((table-when t).1 i) e));
+        no_table_lem = (λ z i. contra ((table_when t).1 i) e, λ n. refl);
+        unknown = (λ z. absurd (omega arith), λ (i, n). absurd (contra ((table_when t).1 i) e));
+        value = λ v. (λ z. absurd (apart z), λ (i, n). absurd (contra ((table_when t).1 i) e));
       })
 
-  with-table : symbolTable t ≡ true → SymbolNumbers t name (symbol_of t name)
-  with-table e =
-      let i = (table-when t).0 e in
-      either (hasName t name)
+  with_table : symbol_table t ≡ true → SymbolNumbers t name (symbol_of t name)
+  with_table e =
+      let i = (table_when t).0 e in
+      either (has_name t name)
       (λ h.
       rw (there e h)
       (record {
-        no_table = (λ z. absurd (omega arith), λ n. absurd (n i));
-        unknown = (λ z. absurd (omega arith), λ (j, n). absurd (n (value_of t name) ((resolves-when t name (value_of t name) i).1 (h, refl))));
-        value = λ v. (λ z. (i, (resolves-when t name v i).1 (h, same-value z)), λ (j, n). ap (λ (x : ℕ). Value x) ((resolves-when t name v i).0 n).1);
+        no_table_lem = (λ z. absurd (omega arith), λ n. absurd (n i));
+        unknown = (λ z. absurd (omega arith), λ (j, n). absurd (n (value_of t name) ((resolves_when t name (value_of t name) i).1 (h, refl))));
+        value = λ v. (λ z. (i, (resolves_when t name v i).1 (h, same_value z)), λ (j, n). ap (λ (x : ℕ). Value x) ((resolves_when t name v i).0 n).1);
       }))
       (λ h.
       rw (not_there e h)
       (record {
-        no_table = (λ z. absurd (omega arith), λ n. absurd (n i));
-        unknown = (λ z. (i, λ v n. contra ((resolves-when t name v i).0 n).0 h), λ n. refl);
-        value = λ v. (λ z. absurd (unknown-apart z), λ (j, n). absurd (contra ((resolves-when t name v i).0 n).0 h));
+        no_table_lem = (λ z. absurd (omega arith), λ n. absurd (n i));
+        unknown = (λ z. (i, λ v n. contra ((resolves_when t name v i).0 n).0 h), λ n. refl);
+        value = λ v. (λ z. absurd (unknown_apart z), λ (j, n). absurd (contra ((resolves_when t name v i).0 n).0 h));
       }))
 
-  pub symbol-numbers : SymbolNumbers t name (symbol_of t name)
-  symbol-numbers = either (symbolTable t) with-table with_none
+  pub symbol_numbers : SymbolNumbers t name (symbol_of t name)
+  symbol_numbers = either (symbol_table t) with_table with_none

@@ -1,12 +1,12 @@
 // The symbol table lent to a command call: whether bytes are one, and what a name resolves to in it.
 ghost use Rattle.std.specs.Prelude.{◌≡◌, true, not, List, ℕ, ◌+◌, ◌*◌, ◌≤◌, ◌<◌, length, take, drop};
-ghost use Rattle.lists.specs.Below.{all_below, anyBelow};
-ghost use Rattle.wire.specs.Bytes.{beAt};
-ghost use Rattle.symbols.specs.Table.{same_name, symbolsIn, name_at, padded, symbolRules, symbolTable, value_at};
-ghost use Rattle.symbols.specs.Answers.{KnownOf, known_of, foundIn, symbol_of, SymbolNumbers};
-ghost use Rattle.symbols.specs.Record.{recordRules};
+ghost use Rattle.lists.specs.Below.{all_below, any_below};
+ghost use Rattle.wire.specs.Bytes.{be_at};
+ghost use Rattle.symbols.specs.Table.{same_name, symbols_in, name_at, padded, symbol_rules, symbol_table, value_at};
+ghost use Rattle.symbols.specs.Answers.{KnownOf, known_of, found_in, symbol_of, SymbolNumbers};
+ghost use Rattle.symbols.specs.Record.{record_rules};
 ghost use Rattle.symbols.specs.RecordByRecord.{RecordByRecord};
-ghost use Rattle.symbols.specs.Words.{nameWords, hasFirst, hasWords};
+ghost use Rattle.symbols.specs.Words.{name_words, has_first, has_words};
 
 use wire::{get16, get32};
 
@@ -56,7 +56,7 @@ fn is_padded(t: &[u8], i: usize) -> bool
 // What is asked of record i by itself.
 fn is_record(t: &[u8], i: usize) -> bool
     requires { 56 * i + 56 ≤ length t.now }
-    ensures { result ≡ recordRules t.now i }
+    ensures { result ≡ record_rules t.now i }
 {
     let r = record_at(t, i);
     let kind = r[0];
@@ -72,7 +72,7 @@ fn is_record(t: &[u8], i: usize) -> bool
 // Eight bytes as one number.
 fn get64(p: &[u8], at: u16) -> u64
     requires { at ≤ 48 }
-    ensures { result ≡ beAt 8 p.now at }
+    ensures { result ≡ be_at 8 p.now at }
 {
     get32(p, at) as u64 * 4294967296 + get32(p, at + 4) as u64
 }
@@ -91,7 +91,7 @@ struct NameWords {
 
 fn words_of(t: &[u8], i: usize) -> NameWords
     requires { 56 * i + 56 ≤ length t.now }
-    ensures { result ≡ nameWords t.now i }
+    ensures { result ≡ name_words t.now i }
 {
     let r = record_at(t, i);
     NameWords {
@@ -108,7 +108,7 @@ fn words_of(t: &[u8], i: usize) -> NameWords
 // Whether record j has these.
 fn has_words(t: &[u8], j: usize, w: NameWords) -> bool
     requires { 56 * j + 56 ≤ length t.now }
-    ensures { result ≡ hasWords t.now w j }
+    ensures { result ≡ has_words t.now w j }
 {
     let r = record_at(t, j);
     if get64(r, 4) != w.a {
@@ -125,7 +125,7 @@ fn has_words(t: &[u8], j: usize, w: NameWords) -> bool
 // Whether some record before record i has these first eight bytes of its name field.
 fn any_first(t: &[u8], i: usize, a: u64) -> bool
     requires { 56 * i ≤ length t.now }
-    ensures { result ≡ anyBelow (hasFirst t.now a) i }
+    ensures { result ≡ any_below (has_first t.now a) i }
 {
     let mut k: usize = 0;
     while k < i {
@@ -140,7 +140,7 @@ fn any_first(t: &[u8], i: usize, a: u64) -> bool
 // Whether no record before record i has its name. Names are padded with zeros, so the whole fields are compared, eight bytes at a time,
 // and first the first eight bytes alone, in which most names differ.
 fn is_new(t: &[u8], i: usize) -> bool
-    requires { (56 * i + 56 ≤ length t.now) × (recordRules t.now i ≡ true) × (all_below (symbolRules t.now) i ≡ true) }
+    requires { (56 * i + 56 ≤ length t.now) × (record_rules t.now i ≡ true) × (all_below (symbol_rules t.now) i ≡ true) }
     ensures { result ≡ all_below (λ j. not (same_name (name_at t.now i) (name_at t.now j))) i }
 {
     let w = words_of(t, i);
@@ -159,7 +159,7 @@ fn is_new(t: &[u8], i: usize) -> bool
 }
 
 fn is_table(t: &[u8]) -> bool
-    ensures { result ≡ symbolTable t.now }
+    ensures { result ≡ symbol_table t.now }
 {
     if t.len() % 56 != 0 {
         return false;
@@ -185,7 +185,7 @@ fn is_table(t: &[u8]) -> bool
 
 // Whether record i has this name. The last byte is compared first, since names of one table tend to begin alike.
 fn is_named(t: &[u8], i: usize, name: &[u8]) -> bool
-    requires { (56 * i + 56 ≤ length t.now) × (recordRules t.now i ≡ true) }
+    requires { (56 * i + 56 ≤ length t.now) × (record_rules t.now i ≡ true) }
     ensures { result ≡ same_name (name_at t.now i) name.now }
 {
     let at = 56 * i + 4;
@@ -207,7 +207,7 @@ fn is_named(t: &[u8], i: usize, name: &[u8]) -> bool
 
 // The value of record i. An alias has the value of the lower-numbered record that it names.
 fn value_at(t: &[u8], i: usize) -> u32
-    requires { (symbolTable t.now ≡ true) × (i < symbolsIn t.now) }
+    requires { (symbol_table t.now ≡ true) × (i < symbols_in t.now) }
     ensures { result ≡ value_at t.now i }
 {
     let r = record_at(t, i);
@@ -219,8 +219,8 @@ fn value_at(t: &[u8], i: usize) -> u32
 }
 
 fn resolve(t: &[u8], name: &[u8]) -> Symbol
-    requires { symbolTable t.now ≡ true }
-    ensures { result ≡ foundIn t.now name.now }
+    requires { symbol_table t.now ≡ true }
+    ensures { result ≡ found_in t.now name.now }
 {
     let n = t.len() / 56;
     let mut i: usize = 0;
@@ -247,7 +247,7 @@ pub fn known_of(t: &[u8]) -> Known
 
 fn is_table_by(t: &[u8], known: Known) -> bool
     requires { KnownOf known t.now }
-    ensures { result ≡ symbolTable t.now }
+    ensures { result ≡ symbol_table t.now }
 {
     match known {
         Known::Untested => is_table(t),

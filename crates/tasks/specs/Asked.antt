@@ -1,12 +1,12 @@
 -- What a command asks for whose packet passed numbers 4 to 8: its task, or the number that it gets next.
 use Rattle.std.specs.Prelude.{Bool, cond, ◌&&◌, List, ℕ, ◌-◌, ◌%◌, leb, ltb, eqb}
-use Rattle.symbols.specs.Table.{symbolTable, hasName, value_of}
-use Rattle.rules.specs.Packets.{nameIn, decode, packetLength}
-use Rattle.packet.specs.Frame.{headedOf, checkedBy}
+use Rattle.symbols.specs.Table.{symbol_table, has_name, value_of}
+use Rattle.rules.specs.Packets.{name_in, decode, packet_length}
+use Rattle.packet.specs.Frame.{headed_of, checked_by}
 use Rattle.rules.specs.declared.Decoded.{Decoded}
 use Rattle.rules.specs.declared.Verdict.{Verdict}
 use Rattle.rules.specs.declared.Verdict.TheVariants.{Accepted, Rejected}
-use Rattle.rules.specs.Commands.{task_of, noTable, layoutRules, unknownName, wrongRange}
+use Rattle.rules.specs.Commands.{task_of, no_table, layout_rules, unknown_name, wrong_range}
 use Rattle.rules.specs.declared.Command.{Command}
 use Rattle.rules.specs.declared.Decoded.TheVariants.{Unknown, Known}
 use Rattle.rules.specs.declared.Refusal.TheVariants.{BadTable, BadField, UnknownSymbol, UnknownCode}
@@ -20,46 +20,46 @@ use Rattle.tasks.specs.declared.Named.TheVariants.{Unnamed, Value}
 -- 17, 9, 18 and 9 again, in this order, or the task
 unfoldable pub asked_of : List ℕ → List ℕ → Command → Sought
 asked_of symbols p k =
-    cond (noTable symbols (Known k)) (Denied BadTable)
-    (cond (layoutRules p k)
-    (cond (unknownName symbols (nameIn p) (Known k)) (Denied UnknownSymbol)
-    (cond (wrongRange symbols (nameIn p) (Known k)) (Denied BadField) (Asked (task_of symbols (nameIn p) (Known k)))))
+    cond (no_table symbols (Known k)) (Denied BadTable)
+    (cond (layout_rules p k)
+    (cond (unknown_name symbols (name_in p) (Known k)) (Denied UnknownSymbol)
+    (cond (wrong_range symbols (name_in p) (Known k)) (Denied BadField) (Asked (task_of symbols (name_in p) (Known k)))))
     (Denied BadField))
 
 -- what numbers 7 and 8 say, or what is asked
-abbrev pub ifPassed : Verdict → Sought → Sought
-ifPassed (Rejected r) s = Denied r
-ifPassed Accepted s = s
+abbrev pub if_passed : Verdict → Sought → Sought
+if_passed (Rejected r) s = Denied r
+if_passed Accepted s = s
 
 -- 6, or 7 and 8 by the length of the command that the function code names, and then what it asks for
-abbrev pub pickedBy : List ℕ → ℕ → List ℕ → Decoded → Sought
-pickedBy p unit symbols Unknown = Denied UnknownCode
-pickedBy p unit symbols (Known k) = ifPassed (checkedBy p unit (packetLength k)) (asked_of symbols p k)
+abbrev pub picked_by : List ℕ → ℕ → List ℕ → Decoded → Sought
+picked_by p unit symbols Unknown = Denied UnknownCode
+picked_by p unit symbols (Known k) = if_passed (checked_by p unit (packet_length k)) (asked_of symbols p k)
 
 -- 4 to 9, 17 and 18, or what a packet asks for
-unfoldable pub soughtIn : List ℕ → ℕ → List ℕ → Sought
-soughtIn p unit symbols = ifPassed (headedOf p) (pickedBy p unit symbols (decode p))
+unfoldable pub sought_in : List ℕ → ℕ → List ℕ → Sought
+sought_in p unit symbols = if_passed (headed_of p) (picked_by p unit symbols (decode p))
 
 -- THE STEPS
 
 -- a symbol is named, in a packet whose layout is right or not: 17, 9, 18 or its value
 abbrev pub named_by : List ℕ → List ℕ → Bool → Named
 named_by symbols name right =
-    cond (symbolTable symbols)
-    (cond right (cond (hasName symbols name) (Value (value_of symbols name)) (Unnamed UnknownSymbol)) (Unnamed BadField))
+    cond (symbol_table symbols)
+    (cond right (cond (has_name symbols name) (Value (value_of symbols name)) (Unnamed UnknownSymbol)) (Unnamed BadField))
     (Unnamed BadTable)
 
 -- what a name resolves to in a packet whose layout is right, or 9
-abbrev pub namedIf : Bool → Named → Named
-namedIf right n = cond right n (Unnamed BadField)
+abbrev pub named_if : Bool → Named → Named
+named_if right n = cond right n (Unnamed BadField)
 
 -- `size` words from an address that has 2^32 added: their dump, or 9
-abbrev pub dumpFrom : ℕ → ℕ → Sought
-dumpFrom moved size =
+abbrev pub dump_from : ℕ → ℕ → Sought
+dump_from moved size =
     cond (leb 4294967296 moved && ltb moved 8589934592 && eqb ((moved - 4294967296) % 4) 0 && leb 1 size)
     (Asked (DumpRange (record { start = record { 0 = moved - 4294967296 }; words = size })))
     (Denied BadField)
 
 -- a task whose fields are right, or 9
-abbrev pub ifRight : Bool → Task → Sought
-ifRight right t = cond right (Asked t) (Denied BadField)
+abbrev pub if_right : Bool → Task → Sought
+if_right right t = cond right (Asked t) (Denied BadField)

@@ -2,12 +2,12 @@
 ghost use Rattle.std.specs.Prelude.{◌≡◌, ℕ, ◌%◌, ◌≤◌, ◌<◌, length, List};
 ghost use Rattle.lists.specs.Splice.{splice};
 ghost use Rattle.wire.specs.Bytes.{word_bytes};
-ghost use Rattle.wire.specs.Bytes.{beAt};
-ghost use Rattle.rules.specs.Packets.{nameIn, nameSizeOf, requestOf, symbolRequestOf, decode, requested};
-ghost use Rattle.rules.specs.Values.{movedUp, valueBytes};
+ghost use Rattle.wire.specs.Bytes.{be_at};
+ghost use Rattle.rules.specs.Packets.{name_in, name_size_of, request_of, symbol_request_of, decode, requested};
+ghost use Rattle.rules.specs.Values.{moved_up, value_bytes};
 ghost use Rattle.rules.specs.declared.Command.TheVariants.{Dump, Cancel, Load, PoolStatistics, SymbolValue, DumpSymbol};
 ghost use Rattle.symbols.specs.Answers.{KnownOf};
-ghost use Rattle.tasks.specs.Asked.{asked_of, ifPassed, pickedBy, soughtIn, named_by, namedIf, dumpFrom, ifRight};
+ghost use Rattle.tasks.specs.Asked.{asked_of, if_passed, picked_by, sought_in, named_by, named_if, dump_from, if_right};
 
 use packet::{
     checked, code, dump_rules, end_is_zero, function_code, headed, lengths, load_rules, name_fits,
@@ -43,7 +43,7 @@ fn range_of(q: Request) -> Range
 
 // The name in a packet: as many bytes as its size says, or as there are.
 fn name_in(p: &[u8]) -> &[u8]
-    ensures { result.now ≡ nameIn p.now }
+    ensures { result.now ≡ name_in p.now }
 {
     if p.len() < 12 {
         return &p[0..0];
@@ -57,7 +57,7 @@ fn name_in(p: &[u8]) -> &[u8]
 
 // What a name resolves to in a packet whose layout is right, or 9.
 fn named_if(right: bool, named: Named) -> Named
-    ensures { result ≡ namedIf right named }
+    ensures { result ≡ named_if right named }
 {
     if right {
         named
@@ -69,7 +69,7 @@ fn named_if(right: bool, named: Named) -> Named
 // The value of the symbol that a packet names. `right` says whether the name's size and the zero bits are as laid down.
 fn resolved(symbols: &[u8], known: Known, p: &[u8], right: bool) -> Named
     requires { KnownOf known symbols.now }
-    ensures { result ≡ named_by symbols.now (nameIn p.now) right }
+    ensures { result ≡ named_by symbols.now (name_in p.now) right }
 {
     let symbol = symbol_of(symbols, known, name_in(p));
     match symbol {
@@ -81,7 +81,7 @@ fn resolved(symbols: &[u8], known: Known, p: &[u8], right: bool) -> Named
 
 // Value plus signed offset, with 2^32 added.
 fn moved_up(value: u32, offset: u32) -> u64
-    ensures { result ≡ movedUp value offset }
+    ensures { result ≡ moved_up value offset }
 {
     let sum = value as u64 + offset as u64;
     if offset < 2147483648 {
@@ -92,7 +92,7 @@ fn moved_up(value: u32, offset: u32) -> u64
 
 // The dump of `size` words from an address that has 2^32 added, or 9.
 fn dump_from(moved: u64, size: u16) -> Sought
-    ensures { result ≡ dumpFrom moved size }
+    ensures { result ≡ dump_from moved size }
 {
     if moved < 4294967296 {
         return Sought::Denied(Refusal::BadField);
@@ -115,7 +115,7 @@ fn dump_from(moved: u64, size: u16) -> Sought
 }
 
 fn if_right(right: bool, task: Task) -> Sought
-    ensures { result ≡ ifRight right task }
+    ensures { result ≡ if_right right task }
 {
     if right {
         Sought::Asked(task)
@@ -127,7 +127,7 @@ fn if_right(right: bool, task: Task) -> Sought
 // THE HANDLERS: a packet's task, or the number that it gets. `fit` is what numbers 7 and 8 say of it.
 
 fn dump(p: &[u8], fit: Verdict) -> Sought
-    ensures { (symbols : List ℕ) → result ≡ ifPassed fit (asked_of symbols p.now (Dump (requestOf p.now))) }
+    ensures { (symbols : List ℕ) → result ≡ if_passed fit (asked_of symbols p.now (Dump (request_of p.now))) }
 {
     if let Verdict::Rejected(r) = fit {
         return Sought::Denied(r);
@@ -140,7 +140,7 @@ fn dump(p: &[u8], fit: Verdict) -> Sought
 }
 
 fn cancel(fit: Verdict) -> Sought
-    ensures { (symbols p : List ℕ) → result ≡ ifPassed fit (asked_of symbols p Cancel) }
+    ensures { (symbols p : List ℕ) → result ≡ if_passed fit (asked_of symbols p Cancel) }
 {
     if let Verdict::Rejected(r) = fit {
         return Sought::Denied(r);
@@ -149,7 +149,7 @@ fn cancel(fit: Verdict) -> Sought
 }
 
 fn load(p: &[u8], fit: Verdict) -> Sought
-    ensures { (symbols : List ℕ) → result ≡ ifPassed fit (asked_of symbols p.now (Load (requestOf p.now))) }
+    ensures { (symbols : List ℕ) → result ≡ if_passed fit (asked_of symbols p.now (Load (request_of p.now))) }
 {
     if let Verdict::Rejected(r) = fit {
         return Sought::Denied(r);
@@ -162,7 +162,7 @@ fn load(p: &[u8], fit: Verdict) -> Sought
 }
 
 fn pool_statistics(p: &[u8], fit: Verdict) -> Sought
-    ensures { (symbols : List ℕ) → result ≡ ifPassed fit (asked_of symbols p.now (PoolStatistics (beAt 2 p.now 10))) }
+    ensures { (symbols : List ℕ) → result ≡ if_passed fit (asked_of symbols p.now (PoolStatistics (be_at 2 p.now 10))) }
 {
     if let Verdict::Rejected(r) = fit {
         return Sought::Denied(r);
@@ -173,7 +173,7 @@ fn pool_statistics(p: &[u8], fit: Verdict) -> Sought
 
 fn symbol_value(p: &[u8], fit: Verdict, symbols: &[u8], known: Known) -> Sought
     requires { KnownOf known symbols.now }
-    ensures { result ≡ ifPassed fit (asked_of symbols.now p.now (SymbolValue (nameSizeOf p.now))) }
+    ensures { result ≡ if_passed fit (asked_of symbols.now p.now (SymbolValue (name_size_of p.now))) }
 {
     if let Verdict::Rejected(r) = fit {
         return Sought::Denied(r);
@@ -188,7 +188,7 @@ fn symbol_value(p: &[u8], fit: Verdict, symbols: &[u8], known: Known) -> Sought
 
 fn named_dump(p: &[u8], fit: Verdict, symbols: &[u8], known: Known) -> Sought
     requires { KnownOf known symbols.now }
-    ensures { result ≡ ifPassed fit (asked_of symbols.now p.now (DumpSymbol (symbolRequestOf p.now))) }
+    ensures { result ≡ if_passed fit (asked_of symbols.now p.now (DumpSymbol (symbol_request_of p.now))) }
 {
     if let Verdict::Rejected(r) = fit {
         return Sought::Denied(r);
@@ -205,7 +205,7 @@ fn named_dump(p: &[u8], fit: Verdict, symbols: &[u8], known: Known) -> Sought
 // THE MATCH: the function code picks the command, its packet's length and its handler.
 fn by_code(p: &[u8], unit: u8, symbols: &[u8], known: Known) -> Sought
     requires { KnownOf known symbols.now }
-    ensures { result ≡ pickedBy p.now unit symbols.now (decode p.now) }
+    ensures { result ≡ picked_by p.now unit symbols.now (decode p.now) }
 {
     match function_code(p) {
         code::DUMP => dump(p, checked(p, unit, lengths::DUMP)),
@@ -221,7 +221,7 @@ fn by_code(p: &[u8], unit: u8, symbols: &[u8], known: Known) -> Sought
 // Numbers 4 to 9, 17 and 18 of a packet for this unit, or its task. `known` is what is known of the symbol table.
 pub fn asked(p: &[u8], unit: u8, symbols: &[u8], known: Known) -> Sought
     requires { KnownOf known symbols.now }
-    ensures { result ≡ soughtIn p.now unit symbols.now }
+    ensures { result ≡ sought_in p.now unit symbols.now }
 {
     let head = headed(p);
     match head {
@@ -232,7 +232,7 @@ pub fn asked(p: &[u8], unit: u8, symbols: &[u8], known: Known) -> Sought
 
 // The reply that tells a value, as three words, each number cut to its field.
 fn value_words(count: u16, unit: u8, transaction: u16, value: u32) -> [u32; 3]
-    ensures { word_bytes result ≡ valueBytes (count % 16384) (unit % 16) (transaction % 4096) value }
+    ensures { word_bytes result ≡ value_bytes (count % 16384) (unit % 16) (transaction % 4096) value }
 {
     let sequence = 49152 + (count % 16384) as u32;
     let identity = 4096 * (unit % 16) as u32 + (transaction % 4096) as u32;
@@ -241,7 +241,7 @@ fn value_words(count: u16, unit: u8, transaction: u16, value: u32) -> [u32; 3]
 
 // The reply at the start of the buffer, each number cut to its field. Where it does not fit, nothing is written.
 pub fn put_value(reply: &mut [u8], count: u16, unit: u8, transaction: u16, value: u32)
-    ensures { (12 ≤ length reply.old → reply.new ≡ splice reply.old 0 (valueBytes (count % 16384) (unit % 16) (transaction % 4096) value))
+    ensures { (12 ≤ length reply.old → reply.new ≡ splice reply.old 0 (value_bytes (count % 16384) (unit % 16) (transaction % 4096) value))
         × (length reply.old < 12 → reply.new ≡ reply.old) }
 {
     let words = value_words(count, unit, transaction, value);

@@ -1,46 +1,46 @@
 -- The examples of the check, computed.
 -- Assumes nothing.
 use mathlib.Core.Path.{refl}
-use Rattle.rules.specs.States.{pieceWords}
+use Rattle.rules.specs.States.{piece_words}
 use Rattle.rules.specs.Demand3.{pieces}
 use Rattle.rules.specs.Results.{lowest}
-use Rattle.rules.specs.Ground.{cutRules, packetRows, readPacket}
-use Rattle.whole_dump.specs.Check.{bytesBefore, packetAt, unfit, agree, piece_of, has, isBad, piecesDue, isMissing, checkDump}
+use Rattle.rules.specs.Ground.{cut_rules, packet_rows, read_packet}
+use Rattle.whole_dump.specs.Check.{bytes_before, packet_at, unfit, agree, piece_of, has, is_bad, pieces_due, is_missing, check_dump}
 use Rattle.whole_dump.specs.Examples.{CheckExamples}
 
-pub check-examples : CheckExamples
-unfolding pieceWords pieces lowest cutRules packetRows readPacket bytesBefore packetAt unfit agree piece_of has isBad piecesDue isMissing checkDump
-check-examples =
+pub check_examples : CheckExamples
+unfolding piece_words pieces lowest cut_rules packet_rows read_packet bytes_before packet_at unfit agree piece_of has is_bad pieces_due is_missing check_dump
+check_examples =
     record {
-      e2-whole = refl;
-      e2-twice = refl;
-      no-packets = refl;
-      in_order = refl;
-      other-order = refl;
+      e2_whole = refl;
+      e2_twice = refl;
+      no_packets = refl;
+      in_order_lem = refl;
+      other_order = refl;
       first_alone = refl;
-      second-alone = refl;
-      same-counts = refl;
+      second_alone = refl;
+      same_counts = refl;
       lowest = refl;
-      other-unit = refl;
-      far-unit = refl;
-      other-transaction = refl;
-      far-transaction = refl;
+      other_unit_lem = refl;
+      far_unit = refl;
+      other_transaction = refl;
+      far_transaction = refl;
       same_address = refl;
-      other-address = refl;
-      other-words = refl;
-      empty-first = refl;
-      empty-last = refl;
-      odd-list = refl;
-      one-over = refl;
-      bytes-alone = refl;
-      one-short = refl;
+      other_address = refl;
+      other_words = refl;
+      empty_first = refl;
+      empty_last = refl;
+      odd_list = refl;
+      one_over = refl;
+      bytes_alone = refl;
+      one_short = refl;
       past_the_end = refl;
-      first-bad = refl;
-      third-bad = refl;
-      bad-and-missing = refl;
-      odd-and-bad = refl;
-      left-over-and-bad = refl;
+      first_bad_lem = refl;
+      third_bad = refl;
+      bad_and_missing = refl;
+      odd_and_bad = refl;
+      left_over_and_bad = refl;
       most = refl;
       over = refl;
-      far-over = refl;
+      far_over = refl;
     }

@@ -7,7 +7,7 @@ use native.Mathlib.Omega.{arith}
 use lib.ListN.{length}
 use Rattle.wire.specs.Bytes.{word_bytes}
 
-pub word-bytes-length : (ws : List ℕ) → length (word_bytes ws) ≡ 4 * length ws
+pub word_bytes_length : (ws : List ℕ) → length (word_bytes ws) ≡ 4 * length ws
 unfolding word_bytes
-word-bytes-length [] = refl
-word-bytes-length (w ∷ ws) = let h = word-bytes-length ws in omega arith
+word_bytes_length [] = refl
+word_bytes_length (w ∷ ws) = let h = word_bytes_length ws in omega arith

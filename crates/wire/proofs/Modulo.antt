@@ -8,11 +8,11 @@ use native.Mathlib.Omega.{arith}
 use lib.Arith.{mod-mul}
 use Rattle.wire.specs.Bytes.{be}
 
-pub be-modulo : (n x : ℕ) → be n (x % 256 ^ n) ≡ be n x
-be-modulo zero x = refl
-be-modulo (suc n) x =
+pub be_modulo : (n x : ℕ) → be n (x % 256 ^ n) ≡ be n x
+be_modulo zero x = refl
+be_modulo (suc n) x =
     let p : 0 < 256 ^ n = one-le-pow n 256 (omega arith) in
     let e : x % 256 ^ suc n ≡ (x / 256 % 256 ^ n) * 256 + x % 256 = ap (λ (k : ℕ). x % k) (pow-suc 256 n) ∙ mod-mul x p (omega arith) in
     let q : x % 256 ^ suc n / 256 ≡ x / 256 % 256 ^ n = omega arith in
     let r : x % 256 ^ suc n % 256 ≡ x % 256 = omega arith in
-    ap₂ (λ (a b : ℕ). be n a ++ (b ∷ [])) q r ∙ ap (λ l. l ++ (x % 256 ∷ [])) (be-modulo n (x / 256))
+    ap₂ (λ (a b : ℕ). be n a ++ (b ∷ [])) q r ∙ ap (λ l. l ++ (x % 256 ∷ [])) (be_modulo n (x / 256))

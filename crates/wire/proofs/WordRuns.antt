@@ -8,24 +8,24 @@ use native.Mathlib.Omega.{arith}
 use lib.ListN.{length, take, get_or}
 use lib.Seq.{length-take-le, take-suc}
 use Rattle.lists.specs.Splice.{splice}
-use Rattle.lists.proofs.Runs.{splice-splice}
+use Rattle.lists.proofs.Runs.{splice_splice}
 use Rattle.wire.specs.Bytes.{be, word_bytes}
-use Rattle.wire.proofs.Lengths.{word-bytes-length}
+use Rattle.wire.proofs.Lengths.{word_bytes_length}
 
-pub word-bytes-append : (u v : List ℕ) → word_bytes (u ++ v) ≡ word_bytes u ++ word_bytes v
+pub word_bytes_append : (u v : List ℕ) → word_bytes (u ++ v) ≡ word_bytes u ++ word_bytes v
 unfolding word_bytes
-word-bytes-append [] v = refl
-word-bytes-append (w ∷ u) v = rw (word-bytes-append u v) (sym (append_assoc (be 4 w) (word_bytes u) (word_bytes v)))
+word_bytes_append [] v = refl
+word_bytes_append (w ∷ u) v = rw (word_bytes_append u v) (sym (append_assoc (be 4 w) (word_bytes u) (word_bytes v)))
 
 -- one word more at the end
-pub word-bytes-more : (ws : List ℕ) (i : ℕ) → i < length ws → word_bytes (take (i + 1) ws) ≡ word_bytes (take i ws) ++ be 4 (get_or ws i 0)
+pub word_bytes_more : (ws : List ℕ) (i : ℕ) → i < length ws → word_bytes (take (i + 1) ws) ≡ word_bytes (take i ws) ++ be 4 (get_or ws i 0)
 unfolding word_bytes
-word-bytes-more ws i h = rw (add-one i, take-suc ws i 0) (word-bytes-append (take i ws) (get_or ws i 0 ∷ []))
+word_bytes_more ws i h = rw (add-one i, take-suc ws i 0) (word_bytes_append (take i ws) (get_or ws i 0 ∷ []))
 
 -- one turn of a loop that writes words: b holds the first i, and the next goes right after them
-pub word-turn : (l b b' ws : List ℕ) (at i : ℕ) → i < length ws → at + 4 * length ws ≤ length l → b ≡ splice l at (word_bytes (take i ws))
+pub word_turn : (l b b' ws : List ℕ) (at i : ℕ) → i < length ws → at + 4 * length ws ≤ length l → b ≡ splice l at (word_bytes (take i ws))
     → b' ≡ splice b (at + 4 * i) (be 4 (get_or ws i 0)) → b' ≡ splice l at (word_bytes (take (i + 1) ws))
-word-turn l b b' ws at i h room e e' =
+word_turn l b b' ws at i h room e e' =
     let n : i ≤ length ws = omega arith in
-    let k : length (word_bytes (take i ws)) ≡ 4 * i = rw (word-bytes-length, length-take-le) in
-    rw (e', e, word-bytes-more ws i h) (splice-splice l (word_bytes (take i ws)) (be 4 (get_or ws i 0)) at (at + 4 * i) (omega arith) (omega arith))
+    let k : length (word_bytes (take i ws)) ≡ 4 * i = rw (word_bytes_length, length-take-le) in
+    rw (e', e, word_bytes_more ws i h) (splice_splice l (word_bytes (take i ws)) (be 4 (get_or ws i 0)) at (at + 4 * i) (omega arith) (omega arith))

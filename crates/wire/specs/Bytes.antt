@@ -11,9 +11,9 @@ be zero x = []
 be (suc n) x = be n (x / 256) ++ (x % 256 ∷ [])
 
 -- the number in the n bytes of p from index `at` on, the highest first; a byte past the end counts as 0
-abbrev pub beAt : ℕ → List ℕ → ℕ → ℕ
-beAt zero p at = 0
-beAt (suc n) p at = beAt n p at * 256 + get_or p (at + n) 0
+abbrev pub be_at : ℕ → List ℕ → ℕ → ℕ
+be_at zero p at = 0
+be_at (suc n) p at = be_at n p at * 256 + get_or p (at + n) 0
 
 -- words of 32 bits as bytes, in order
 unfoldable pub word_bytes : List ℕ → List ℕ
@@ -21,6 +21,6 @@ word_bytes [] = []
 word_bytes (w ∷ ws) = be 4 w ++ word_bytes ws
 
 -- the n words of 32 bits in the bytes of p from index `at` on
-unfoldable pub wordsAt : ℕ → List ℕ → ℕ → List ℕ
-wordsAt zero p at = []
-wordsAt (suc n) p at = beAt 4 p at ∷ wordsAt n p (at + 4)
+unfoldable pub words_at : ℕ → List ℕ → ℕ → List ℕ
+words_at zero p at = []
+words_at (suc n) p at = be_at 4 p at ∷ words_at n p (at + 4)

@@ -1,8 +1,8 @@
 // Numbers in bytes, big-endian, and the exclusive or. Every public function but `read16` and `read32` is total: a byte past the end reads as 0, and words that do not all fit are not written.
 ghost use Rattle.std.specs.Prelude.{◌≡◌, reverse, ◌+◌, ◌*◌, ◌≤◌, ◌<◌, length, get_or};
 ghost use Rattle.lists.specs.Splice.{splice};
-ghost use Rattle.wire.specs.Bytes.{be, beAt, word_bytes};
-ghost use Rattle.wire.specs.Xor.{xorAll};
+ghost use Rattle.wire.specs.Bytes.{be, be_at, word_bytes};
+ghost use Rattle.wire.specs.Xor.{xor_all};
 ghost use Rattle.wire.specs.ByByte.{ByByte};
 
 // A byte as a wider number.
@@ -44,7 +44,7 @@ fn swapped(x: u32) -> u32
 // The number in two bytes that are there. They are read lowest first and turned round: of that the compiler makes one load and one swap.
 pub fn read16(p: &[u8], at: usize) -> u16
     requires { at + 2 ≤ length p.now }
-    ensures { result ≡ beAt 2 p.now at }
+    ensures { result ≡ be_at 2 p.now at }
 {
     swapped16(wide16(p[at]) + wide16(p[at + 1]) * 256)
 }
@@ -52,7 +52,7 @@ pub fn read16(p: &[u8], at: usize) -> u16
 // The number in four bytes that are there.
 pub fn read32(p: &[u8], at: usize) -> u32
     requires { at + 4 ≤ length p.now }
-    ensures { result ≡ beAt 4 p.now at }
+    ensures { result ≡ be_at 4 p.now at }
 {
     swapped(
         wide32(p[at])
@@ -64,7 +64,7 @@ pub fn read32(p: &[u8], at: usize) -> u32
 
 // The number in two bytes from index `at` on.
 pub fn get16(p: &[u8], at: u16) -> u16
-    ensures { result ≡ beAt 2 p.now at }
+    ensures { result ≡ be_at 2 p.now at }
 {
     let i = at as usize;
     if i + 2 <= p.len() {
@@ -75,7 +75,7 @@ pub fn get16(p: &[u8], at: u16) -> u16
 
 // The number in four bytes from index `at` on.
 pub fn get32(p: &[u8], at: u16) -> u32
-    ensures { result ≡ beAt 4 p.now at }
+    ensures { result ≡ be_at 4 p.now at }
 {
     let i = at as usize;
     if i + 4 <= p.len() {
@@ -124,7 +124,7 @@ pub fn put_words(b: &mut [u8], at: usize, words: &[u32])
 
 // The exclusive or of the four bytes of a word.
 pub fn xor_word(x: u32) -> u8
-    ensures { result ≡ xorAll (be 4 x) }
+    ensures { result ≡ xor_all (be 4 x) }
 {
     let low = ((x / 256 % 256) as u8) ^ ((x % 256) as u8);
     ((x / 256 / 256 / 256 % 256) as u8) ^ (((x / 256 / 256 % 256) as u8) ^ low)
@@ -132,7 +132,7 @@ pub fn xor_word(x: u32) -> u8
 
 // The exclusive or of all bytes. Eight at a time, each into a number of its own: the compiler then reads eight bytes at once.
 pub fn xor_all(s: &[u8]) -> u8
-    ensures { result ≡ xorAll s.now }
+    ensures { result ≡ xor_all s.now }
 {
     let mut a: u8 = 0;
     let mut b: u8 = 0;

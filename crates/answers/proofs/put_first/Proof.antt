@@ -1,5 +1,5 @@
 -- `answers::put_first` meets its contract: a walk of its MIR, by hand. The borrow is opened once, before the loop, and closed once, after it. In a turn `record_at` is called, one element is taken out of the row and stored to, and the row is put together again.
--- The loop's invariant at i: the row is the list passed, with the first i records written (`putRecords`). Its variant is i with i ≤ n, ordered by what is left.
+-- The loop's invariant at i: the row is the list passed, with the first i records written (`put_records`). Its variant is i with i ≤ n, ordered by what is left.
 -- All that the proof knows of `record_at` is that it meets its contract. In each turn it gets a copy of both `&`, and the walk keeps its own. A number and a struct of plain data own only facts, so what they own is made anew where it is asked for (`owned`).
 -- Assumes nothing.
 use mathlib.Core.Path.{◌≡◌, refl, sym, ap, ◌∙◌, subst}
@@ -51,7 +51,7 @@ use denote.Triple.Table.{entered, cited}
 use denote.Triple.Walked.{says, needs, Stays, stay_none, stay_none_slice, stay_slice, walk_of, Goes-none, Goes-none_slice, Goes-slice, Walks, ends_at, walked, walk_Meets}
 use denote.Exit.{yes}
 use borrow.Author.Rules.{scaled_Fits}
-use Rattle.answers.specs.Records.{answersOf, recordAt, putRecords}
+use Rattle.answers.specs.Records.{answers_of, record_at, put_records}
 use Rattle.answers.specs.declared.ItemAnswer.{ItemAnswer}
 use Rattle.answers.specs.declared.Answered.{Answered}
 use Rattle.answers.specs.contracts.ItemAnswer as R
@@ -66,12 +66,12 @@ use Rattle.answers.proofs.put_first.Statement as stated
 use Rattle.answers.proofs.put_first.Code as code
 
 -- ---- lists: the records written leave the length, and one more record is one more `set`
-length-put : (l : List ItemAnswer) (a : Answered) (k : ℕ) → length (putRecords l a k) ≡ length l
-length-put l a zero = refl
-length-put l a (suc k) = length-set (putRecords l a k) k (recordAt a k) ∙ length-put l a k
+length_put : (l : List ItemAnswer) (a : Answered) (k : ℕ) → length (put_records l a k) ≡ length l
+length_put l a zero = refl
+length_put l a (suc k) = length-set (put_records l a k) k (record_at a k) ∙ length_put l a k
 
-put-more : (l : List ItemAnswer) (a : Answered) (k : ℕ) → set (putRecords l a k) k (recordAt a k) ≡ putRecords l a (k + 1)
-put-more l a k = ap (λ (m : ℕ). putRecords l a m) (sym (add-one k))
+put_more : (l : List ItemAnswer) (a : Answered) (k : ℕ) → set (put_records l a k) k (record_at a k) ≡ put_records l a (k + 1)
+put_more l a k = ap (λ (m : ℕ). put_records l a m) (sym (add-one k))
 
 -- ---- the code's parts and types. The locals: the result, answers, numbers, lengths, n, i, r, the test, the offset, and the place of `answers[i]`
 abbrev word : Ty
@@ -96,8 +96,8 @@ turn = seq (assign (place 7 []) (op2 (lt unsigned) (copy (place 5 [])) (copy (pl
 abbrev rest : Body
 rest = seq (assign (place 0 []) (rv_opd opd_unit)) return
 
-abbrev whole-body : Body
-whole-body = seq (assign (place 5 []) (rv_opd (int w64 0))) (seq (block (loop turn)) rest)
+abbrev whole_body : Body
+whole_body = seq (assign (place 5 []) (rv_opd (int w64 0))) (seq (block (loop turn)) rest)
 
 abbrev stayed : Stays (put.ended).signature.params (put.ended).kept
 stayed = (
@@ -110,9 +110,9 @@ module _ {M : Type 1} {𝓤 : Ura M} (𝓛 : Logic 𝓤) (mem : Memory → SProp
   abbrev RecordAt : Contract 𝓤
   RecordAt = triple_of 𝓛 record-at.signature (record-at.spec 𝓛 mem run)
 
-  record_of : (κs : Lfts 2) (ns ls : Bor (List ℕ)) (i : ℕ) (r : ItemAnswer)
-      → ent 𝓤 (ensured 𝓛 record-at.ended (record-at.clauses 𝓛 mem run) κs (ns, (ls, (i, tt))) tt r) (fact 𝓤 (r ≡ recordAt (answersOf ns.now ls.now) i))
-  record_of κs ns ls i r = ex_e 𝓤 _ (λ ws. snd∗ 𝓤 (sem 𝓛 (lasts record-at.ended κs (ns, (ls, (i, tt))) ws)) (fact 𝓤 (r ≡ recordAt (answersOf ns.now ls.now) i)))
+  record_of_lem : (κs : Lfts 2) (ns ls : Bor (List ℕ)) (i : ℕ) (r : ItemAnswer)
+      → ent 𝓤 (ensured 𝓛 record-at.ended (record-at.clauses 𝓛 mem run) κs (ns, (ls, (i, tt))) tt r) (fact 𝓤 (r ≡ record_at (answers_of ns.now ls.now) i))
+  record_of_lem κs ns ls i r = ex_e 𝓤 _ (λ ws. snd∗ 𝓤 (sem 𝓛 (lasts record-at.ended κs (ns, (ls, (i, tt))) ws)) (fact 𝓤 (r ≡ record_at (answers_of ns.now ls.now) i)))
 
 module _ {M : Type 1} {𝓤 : Ura M} (𝓛 : Logic 𝓤) (mem : Memory → SProp 𝓤) (run : Routine → Fun 𝓤) (κ κ₁ κ₂ : Lft) (q q₁ q₂ : Share) (b o : ℕ) (γ : GName) (xs : List ItemAnswer) (ns ls : MutBor (List ℕ)) (n : ℕ)
     (room : Room R.the_row (length xs)) (room₁ : Room u8 (length ns.now)) (room₂ : Room u8 (length ls.now)) (n-fits : n < 2 ^ 64) (n_within : n ≤ length xs) where
@@ -120,7 +120,7 @@ module _ {M : Type 1} {𝓤 : Ura M} (𝓛 : Logic 𝓤) (mem : Memory → SProp
   open 𝓛 use {H}
 
   abbrev a : Answered
-  a = answersOf ns.now ls.now
+  a = answers_of ns.now ls.now
 
   -- the borrow at the list l
   abbrev x : List ItemAnswer → Bor (List ItemAnswer)
@@ -152,19 +152,19 @@ module _ {M : Type 1} {𝓤 : Ura M} (𝓛 : Logic 𝓤) (mem : Memory → SProp
   Post = (walk_of 𝓛 put.ended stayed (put.clauses 𝓛 mem run)).post ((κs, qs, tt, args, vals), tt)
 
   -- what each `&` owns, and their tokens
-  abbrev own-ns : Fml
-  own-ns = (ShrSlice (named 1) κ₁ u8).own_val ns (s₁ ∷ [])
+  abbrev own_ns : Fml
+  own_ns = (ShrSlice (named 1) κ₁ u8).own_val ns (s₁ ∷ [])
 
-  abbrev own-ls : Fml
-  own-ls = (ShrSlice (named 2) κ₂ u8).own_val ls (s₂ ∷ [])
+  abbrev own_ls : Fml
+  own_ls = (ShrSlice (named 2) κ₂ u8).own_val ls (s₂ ∷ [])
 
   abbrev Tokens : Item 𝓤
   Tokens = ‵ (flft κ₁ q₁) ⊛ ‵ (flft κ₂ q₂) ⊛ ‵ ftrue
 
   abbrev Leaves : List ItemAnswer → List (Item 𝓤)
-  Leaves zs = ‵ (fobs γ ((coded_holeys R.the_row).code (heres R.the_row zs))) ∷ ‵ (fbor κ (Held R.the_row (length zs) b o γ)) ∷ ‵ (flft κ q) ∷ ‵ own-ns ∷ ‵ own-ls ∷ Tokens ∷ []
+  Leaves zs = ‵ (fobs γ ((coded_holeys R.the_row).code (heres R.the_row zs))) ∷ ‵ (fbor κ (Held R.the_row (length zs) b o γ)) ∷ ‵ (flft κ q) ∷ ‵ own_ns ∷ ‵ own_ls ∷ Tokens ∷ []
 
-  exits : (zs : List ItemAnswer) → length zs ≡ length xs → zs ≡ putRecords xs a n → ent 𝓤 (⋆ 𝓛 (Leaves zs)) (Post vunit)
+  exits : (zs : List ItemAnswer) → length zs ≡ length xs → zs ≡ put_records xs a n → ent 𝓤 (⋆ 𝓛 (Leaves zs)) (Post vunit)
   exits zs long e =
       qed 𝓛 (Leaves zs) ∵
       suffices ! _ (ends_at 𝓛 put.ended stayed (put.clauses 𝓛 mem run) ((κs, qs, tt, args, vals), tt) vunit tt (zs, (tt, (tt, (tt, tt)))) (long, (tt, (tt, (tt, tt))))) $ says ! e $
@@ -174,12 +174,12 @@ module _ {M : Type 1} {𝓤 : Ura M} (𝓛 : Logic 𝓤) (mem : Memory → SProp
       feq_i ! (List Val) (vunit ∷ []) (vunit ∷ []) refl $ move ! (1 ∷ 0 ∷ []) $ done !
 
   -- ---- the call: what the callee's triple binds outside, and that what it asks is had
-  abbrev to-record : ℕ → (RecordAt 𝓛 mem run).Ghost
-  to-record i = (((κ₁, (κ₂, tt)), (q₁, (q₂, tt)), tt, (ns, (ls, (i, tt))), (s₁ ∷ [], (s₂ ∷ [], (vint w64 i ∷ [], tt)))), tt)
+  abbrev to_record : ℕ → (RecordAt 𝓛 mem run).Ghost
+  to_record i = (((κ₁, (κ₂, tt)), (q₁, (q₂, tt)), tt, (ns, (ls, (i, tt))), (s₁ ∷ [], (s₂ ∷ [], (vint w64 i ∷ [], tt)))), tt)
 
-  goes-record : (i : ℕ) → i < 2 ^ 64 → ent 𝓤 (⋆ 𝓛 (‵ own-ns ∷ ‵ own-ls ∷ Tokens ∷ [])) ((RecordAt 𝓛 mem run).pre (to-record i))
-  goes-record i fits =
-      qed 𝓛 (‵ own-ns ∷ ‵ own-ls ∷ Tokens ∷ []) ∵ nothing ! $ owned ! usize (Is usize) (uint_Makes 𝓛 w64) i _ (refl, fits) $ fjoin ! $ move ! (2 ∷ 0 ∷ []) $ fjoin ! $ move ! (1 ∷ 0 ∷ []) $ fjoin ! $
+  goes_record : (i : ℕ) → i < 2 ^ 64 → ent 𝓤 (⋆ 𝓛 (‵ own_ns ∷ ‵ own_ls ∷ Tokens ∷ [])) ((RecordAt 𝓛 mem run).pre (to_record i))
+  goes_record i fits =
+      qed 𝓛 (‵ own_ns ∷ ‵ own_ls ∷ Tokens ∷ []) ∵ nothing ! $ owned ! usize (Is usize) (uint_Makes 𝓛 w64) i _ (refl, fits) $ fjoin ! $ move ! (2 ∷ 0 ∷ []) $ fjoin ! $ move ! (1 ∷ 0 ∷ []) $ fjoin ! $
       move ! (1 ∷ 0 ∷ []) $ join ! $ frame ! $ done !
 
   -- ---- the loop
@@ -201,8 +201,8 @@ module _ {M : Type 1} {𝓤 : Ura M} (𝓛 : Logic 𝓤) (mem : Memory → SProp
   within : (i : ℕ) → i < n → i < length xs
   within i less = lt_of_lt_of_le less n_within
 
-  inside : (i : ℕ) → i < n → i < length (putRecords xs a i)
-  inside i less = subst (λ (m : ℕ). i < m) (sym (length-put xs a i)) (within i less)
+  inside : (i : ℕ) → i < n → i < length (put_records xs a i)
+  inside i less = subst (λ (m : ℕ). i < m) (sym (length_put xs a i)) (within i less)
 
   scaled : (i : ℕ) → i < n → Fits w64 (i * 8)
   scaled i less = scaled_Fits i (length xs) 8 (within i less) room.1
@@ -219,8 +219,8 @@ module _ {M : Type 1} {𝓤 : Ura M} (𝓛 : Logic 𝓤) (mem : Memory → SProp
 
     -- the invariant: the first i records are written
     abbrev At : Upto → List (Item 𝓤)
-    At i = ‵ (row R.the_row full_share (putRecords xs a i.0) b o) ∷ ‵ (fat full_share word l₅ 0 (vint w64 i.0)) ∷ ‵ (froom R'.mir l₆ 0) ∷ ‵ (froom ty_bool l₇ 0) ∷ ‵ (froom word l₈ 0) ∷ ‵ (froom ty_ptr l₉ 0)
-        ∷ ‵ (fat full_share slice l₁ 0 s) ∷ ‵ own-ns ∷ ‵ own-ls ∷ Tokens ∷ ‵ (fat full_share (bytes 1) l₂ 0 s₁) ∷ ‵ (fat full_share (bytes 2) l₃ 0 s₂) ∷ ‵ (fat full_share word l₄ 0 (vint w64 n)) ∷ ‵ (froom ty_unit l₀ 0)
+    At i = ‵ (row R.the_row full_share (put_records xs a i.0) b o) ∷ ‵ (fat full_share word l₅ 0 (vint w64 i.0)) ∷ ‵ (froom R'.mir l₆ 0) ∷ ‵ (froom ty_bool l₇ 0) ∷ ‵ (froom word l₈ 0) ∷ ‵ (froom ty_ptr l₉ 0)
+        ∷ ‵ (fat full_share slice l₁ 0 s) ∷ ‵ own_ns ∷ ‵ own_ls ∷ Tokens ∷ ‵ (fat full_share (bytes 1) l₂ 0 s₁) ∷ ‵ (fat full_share (bytes 2) l₃ 0 s₂) ∷ ‵ (fat full_share word l₄ 0 (vint w64 n)) ∷ ‵ (froom ty_unit l₀ 0)
         ∷ ‵ (fobor κ q (Held R.the_row (length xs) b o γ)) ∷ ‵ (fobs γ ((coded_holeys R.the_row).code (heres R.the_row xs))) ∷ ‵ (fauth γ ((coded_holeys R.the_row).code (heres R.the_row xs)))
         ∷ ‵ (fdies ty_unit l₀) ∷ ‵ (fdies slice l₁) ∷ ‵ (fdies (bytes 1) l₂) ∷ ‵ (fdies (bytes 2) l₃) ∷ ‵ (fdies word l₄) ∷ ‵ (fdies word l₅) ∷ ‵ (fdies R'.mir l₆) ∷ ‵ (fdies ty_bool l₇) ∷ ‵ (fdies word l₈) ∷ ‵ (fdies ty_ptr l₉) ∷ []
 
@@ -236,13 +236,13 @@ module _ {M : Type 1} {𝓤 : Ura M} (𝓛 : Logic 𝓤) (mem : Memory → SProp
         (λ test. let less = ltb→lt i.0 n test in
         skips ! $ exec ! C Λ En more (any_q (Turned i)) $
         -- both `&` are copied for the call
-        move ! (7 ∷ []) $ use1 𝓛 (‵ own-ns ⊛ ‵ own-ns) ((shr_slice_copy 𝓛 (named 1) κ₁ u8).twice ns (s₁ ∷ [])) $ split ! $
-        move ! (9 ∷ []) $ use1 𝓛 (‵ own-ls ⊛ ‵ own-ls) ((shr_slice_copy 𝓛 (named 2) κ₂ u8).twice ls (s₂ ∷ [])) $ split ! $
-        move ! (2 ∷ 0 ∷ 11 ∷ []) $ use3 𝓛 (raw ((RecordAt 𝓛 mem run).pre (to-record i.0))) (goes-record i.0 (fits i)) $
+        move ! (7 ∷ []) $ use1 𝓛 (‵ own_ns ⊛ ‵ own_ns) ((shr_slice_copy 𝓛 (named 1) κ₁ u8).twice ns (s₁ ∷ [])) $ split ! $
+        move ! (9 ∷ []) $ use1 𝓛 (‵ own_ls ⊛ ‵ own_ls) ((shr_slice_copy 𝓛 (named 2) κ₂ u8).twice ls (s₂ ∷ [])) $ split ! $
+        move ! (2 ∷ 0 ∷ 11 ∷ []) $ use3 𝓛 (raw ((RecordAt 𝓛 mem run).pre (to_record i.0))) (goes_record i.0 (fits i)) $
         -- [what the callee asks; lengths; numbers; the row; _5; _6; _7; _8; _9; _1; _2; _3; _4; …]
-        calls_at ! (fm_of 𝓤 H 𝓛.laws 𝓣) (RecordAt 𝓛 mem run) known-record (to-record i.0) (and_then ! (load ! (from ! (stop !)) (look ! 10 refl)) (and_then ! (load ! (from ! (stop !)) (look ! 11 refl)) (and_then ! (load ! (from ! (stop !)) (look ! 4 refl)) (no_more !)))) (λ v.
+        calls_at ! (fm_of 𝓤 H 𝓛.laws 𝓣) (RecordAt 𝓛 mem run) known-record (to_record i.0) (and_then ! (load ! (from ! (stop !)) (look ! 10 refl)) (and_then ! (load ! (from ! (stop !)) (look ! 11 refl)) (and_then ! (load ! (from ! (stop !)) (look ! 4 refl)) (no_more !)))) (λ v.
         use1 𝓛 (later (some (λ (r : ItemAnswer). (Tokens ⊛ ‵ ((R.the_row).own_val r (v ∷ []))) ⊛ raw (ensured 𝓛 record-at.ended (record-at.clauses 𝓛 mem run) (κ₁, (κ₂, tt)) (ns, (ls, (i.0, tt))) tt r)))) (id⊢ 𝓤 _) $ await ! tt $ pick ! (λ r.
-        split ! $ move ! (1 ∷ []) $ use1 𝓛 (raw (fact 𝓤 (r ≡ recordAt a i.0))) (record_of 𝓛 mem run (κ₁, (κ₂, tt)) ns ls i.0 r) $ heard ! (r ≡ recordAt a i.0) (λ e. split ! $
+        split ! $ move ! (1 ∷ []) $ use1 𝓛 (raw (fact 𝓤 (r ≡ record_at a i.0))) (record_of_lem 𝓛 mem run (κ₁, (κ₂, tt)) ns ls i.0 r) $ heard ! (r ≡ record_at a i.0) (λ e. split ! $
         move ! (1 ∷ []) $ peeks ! R.the_row (Is R.the_row) (shows 𝓛 R.the_row) r (v ∷ []) (λ is. move ! (0 ∷ 4 ∷ 5 ∷ 6 ∷ 7 ∷ 8 ∷ 9 ∷ 10 ∷ 3 ∷ 2 ∷ 1 ∷ []) $
         -- [what r owns; the row; _5; _6; _7; _8; _9; _1; numbers; lengths; the tokens; _2; _3; _4; …]
         land ! (from ! (stop !)) (init ! 3 refl ((LL.lawful R.the_type R'.the_laws 𝓛).typed r _ is).0) $
@@ -250,22 +250,22 @@ module _ {M : Type 1} {𝓤 : Ura M} (𝓛 : Logic 𝓤) (mem : Memory → SProp
         assigns ! (bin ! (load ! (from ! (fld ! refl (stop !))) (look_in ! 7 (sub ! 0 refl (whole !)))) (load ! (from ! (stop !)) (look ! 5 refl)) tt) (from ! (stop !)) (init ! 6 refl (tt, tt)) $
         rewrite ! 6 (λ (p : ℕ). ‵ (fat full_share ty_ptr l₉ 0 (vptr b p))) (sym (place_is 8 o i.0)) refl $
         -- element i is taken out of the row, stored to, and put back
-        move ! (1 ∷ []) $ elem_out ! R.the_row (Is R.the_row) (shows 𝓛 R.the_row) (LL.vals R.the_type R'.the_laws) (LL.tells R.the_type R'.the_laws) full_share (putRecords xs a i.0) i.0 r b o (inside i.0 less) (λ _.
+        move ! (1 ∷ []) $ elem_out ! R.the_row (Is R.the_row) (shows 𝓛 R.the_row) (LL.vals R.the_type R'.the_laws) (LL.tells R.the_type R'.the_laws) full_share (put_records xs a i.0) i.0 r b o (inside i.0 less) (λ _.
         -- [answers[i]; what it owned; the others; what r owns; _5; _6; _7; _8; _9; _1; …]
         assigns ! (of_opd ! (load ! (from ! (stop !)) (look ! 5 refl))) (from ! (hop ! (look ! 8 refl) (stop !))) (store_raw ! 0 refl ((LL.lawful R.the_type R'.the_laws 𝓛).typed r _ is).0) $
-        move ! (1 ∷ []) $ drop ! $ move ! (0 ∷ 2 ∷ 1 ∷ []) $ elem_put ! R.the_row full_share (putRecords xs a i.0) i.0 r (v ∷ []) b o (inside i.0 less) $
-        rewrite ! 0 (λ (l : List ItemAnswer). ‵ (row R.the_row full_share l b o)) (ap (λ (y : ItemAnswer). set (putRecords xs a i.0) i.0 y) e ∙ put-more xs a i.0) refl $
+        move ! (1 ∷ []) $ drop ! $ move ! (0 ∷ 2 ∷ 1 ∷ []) $ elem_put ! R.the_row full_share (put_records xs a i.0) i.0 r (v ∷ []) b o (inside i.0 less) $
+        rewrite ! 0 (λ (l : List ItemAnswer). ‵ (row R.the_row full_share l b o)) (ap (λ (y : ItemAnswer). set (put_records xs a i.0) i.0 y) e ∙ put_more xs a i.0) refl $
         assigns_last ! (bin ! (load ! (from ! (stop !)) (look ! 1 refl)) (lit ! tt) (record { fits = fits (next i less) })) (from ! (stop !)) (store ! 1 refl (tt, record { fits = fits (next i less) })) $
         forget ! 2 refl $ forget ! 3 refl $ forget ! 4 refl $ forget ! 5 refl $ again ! Nearer At i (next i less) (add-one-dec n i.0 less)))))))
         (λ over. jumps ! $ exec ! C Λ En rest (at_ret En Post) $
         -- the borrow is closed, at the records written
-        move ! (0 ∷ 14 ∷ 15 ∷ 16 ∷ []) $ closes_slice ! tt R.the_row xs (putRecords xs a i.0) (length-put xs a i.0) b o $
+        move ! (0 ∷ 14 ∷ 15 ∷ 16 ∷ []) $ closes_slice ! tt R.the_row xs (put_records xs a i.0) (length_put xs a i.0) b o $
         -- [obs; the borrow; its token; _5; _6; _7; _8; _9; _1; numbers; lengths; the tokens; _2; _3; _4; _0; and that each local dies]
         assigns ! (of_opd ! (unit_lit !)) (from ! (stop !)) (init ! 15 refl (tt, tt)) $
         returns ! (look ! 15 refl) $ forget ! 3 refl $ forget ! 5 refl $ forget ! 8 refl $ forget ! 12 refl $ forget ! 13 refl $ forget ! 14 refl $ forget ! 15 refl $
         move ! (15 ∷ 16 ∷ []) $ free1 ! $ move ! (8 ∷ 15 ∷ []) $ free1 ! $ move ! (11 ∷ 14 ∷ []) $ free1 ! $ move ! (11 ∷ 13 ∷ []) $ free1 ! $ move ! (11 ∷ 12 ∷ []) $ free1 ! $
         move ! (3 ∷ 11 ∷ []) $ free1 ! $ move ! (3 ∷ 10 ∷ []) $ free1 ! $ move ! (3 ∷ 9 ∷ []) $ free1 ! $ move ! (3 ∷ 8 ∷ []) $ free1 ! $ move ! (3 ∷ 7 ∷ []) $ free1 ! $ free0 ! $
-        by ! (exits (putRecords xs a i.0) (length-put xs a i.0) (ap (λ (m : ℕ). putRecords xs a m) (le_antisymm i.1 (nltb→le i.0 n over)))))
+        by ! (exits (put_records xs a i.0) (length_put xs a i.0) (ap (λ (m : ℕ). put_records xs a m) (le_antisymm i.1 (nltb→le i.0 n over)))))
 
     -- the MIR, up to the loop: the locals, with the parameters in theirs; the tokens; and what the parameters own
     abbrev Entry : List (Item 𝓤)
@@ -274,8 +274,8 @@ module _ {M : Type 1} {𝓤 : Ura M} (𝓛 : Logic 𝓤) (mem : Memory → SProp
         ∷ ‵ (fat full_share slice l₁ 0 s) ∷ ‵ (fdies slice l₁) ∷ ‵ (froom ty_unit l₀ 0) ∷ ‵ (fdies ty_unit l₀)
         ∷ (‵ (flft κ q) ⊛ Tokens) ∷ ‵ (owns (MutSlice (named 0) κ R.the_row ∷ ShrSlice (named 1) κ₁ u8 ∷ ShrSlice (named 2) κ₂ u8 ∷ usize ∷ []) args vals) ∷ []
 
-    runs-body : Sq 𝓛 Entry (runs C Λ En whole-body (at_ret En Post))
-    runs-body =
+    runs_body : Sq 𝓛 Entry (runs C Λ En whole_body (at_ret En Post))
+    runs_body =
         assigns ! (of_opd ! (lit ! tt)) (from ! (stop !)) (init ! 8 refl (tt, record { fits = lit< tt })) $
         -- the borrow is opened
         move ! (21 ∷ []) $ fsplit ! $ fsplit ! $ move ! (1 ∷ []) $ fsplit ! $ move ! (24 ∷ []) $ split ! $ move ! (2 ∷ 3 ∷ 0 ∷ []) $ opens_slice ! tt R.the_row xs b o $
@@ -291,7 +291,7 @@ module _ {M : Type 1} {𝓤 : Ura M} (𝓛 : Logic 𝓤) (mem : Memory → SProp
       qed 𝓛 ((‵ (flft κ q) ⊛ Tokens) ∷ ‵ (owns (MutSlice (named 0) κ R.the_row ∷ ShrSlice (named 1) κ₁ u8 ∷ ShrSlice (named 2) κ₂ u8 ∷ usize ∷ []) args vals) ∷ []) ∵ enter ! 𝓣.C 𝓣.Λ code.function (s ∷ s₁ ∷ s₂ ∷ vint w64 n ∷ []) _ $
       alloc1 ! (λ l₀. alloc1 ! (λ l₁. alloc1 ! (λ l₂. alloc1 ! (λ l₃. alloc1 ! (λ l₄. alloc1 ! (λ l₅. alloc1 ! (λ l₆. alloc1 ! (λ l₇. alloc1 ! (λ l₈. alloc1 ! (λ l₉. alloc0 ! $ params1 ! $
       pass1 ! (init ! 16 refl (tt, (tt, (record { fits = room.0 }, tt)))) $ pass1 ! (init ! 14 refl (tt, (tt, (record { fits = room₁.0 }, tt)))) $ pass1 ! (init ! 12 refl (tt, (tt, (record { fits = room₂.0 }, tt)))) $ pass1 ! (init ! 10 refl (tt, record { fits = n-fits })) $ pass0 ! $
-      runs-body 𝓣 known-record l₀ l₁ l₂ l₃ l₄ l₅ l₆ l₇ l₈ l₉))))))))))
+      runs_body 𝓣 known-record l₀ l₁ l₂ l₃ l₄ l₅ l₆ l₇ l₈ l₉))))))))))
 
 module _ {M : Type 1} {𝓤 : Ura M} (𝓛 : Logic 𝓤) (mem : Memory → SProp 𝓤) (run : Routine → Fun 𝓤) (𝓣 : Tables 𝓤 𝓛.H) (known-record : Triple 𝓤 (𝓣.C #answers·record-at) (RecordAt 𝓛 mem run)) where
   open 𝓛 use {H}
@@ -312,9 +312,9 @@ module _ {M : Type 1} {𝓤 : Ura M} (𝓛 : Logic 𝓤) (mem : Memory → SProp
       ) (put.clauses 𝓛 mem run)
       (WpFn 𝓤 H 𝓣.C 𝓣.Λ code.function) (WpFn-mono 𝓤 H 𝓛.laws 𝓣 code.function) put_walks
 
-pub put-first-spec : {M : Type 1} → stated.statement M
+pub put_first_spec : {M : Type 1} → stated.statement M
 unfolding code.routine tables_of
-put-first-spec 𝓤 𝓛 𝓜 𝓡 =
+put_first_spec 𝓤 𝓛 𝓜 𝓡 =
     entered 𝓤 𝓛.H (triple_of 𝓛 put.signature (put.spec 𝓛 𝓜.mem 𝓡.run))
     (tables 𝓤 𝓛.H 𝓜 𝓡 code.env).C (tables 𝓤 𝓛.H 𝓜 𝓡 code.env).Λ #answers·put-first code.function (code.unfolded 𝓤 𝓛.H 𝓜 𝓡)
     (put_meets 𝓛 𝓜.mem 𝓡.run (tables_of 𝓤 𝓛.H 𝓜 (tables 𝓤 𝓛.H 𝓜 𝓡 code.env))

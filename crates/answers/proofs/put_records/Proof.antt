@@ -1,5 +1,5 @@
 -- `answers::put_records` meets its contract: a walk of its MIR, by hand. It calls `written` and `put_first`, and all that the proof knows of each is that it meets its contract.
--- The `&mut` goes to `put_first` at its own lifetime and is not needed afterwards (`gave_slice`). Each of the two arrays is lent as a slice for a lifetime that is made for the call (`lends-array`), and its room comes back when that lifetime has ended (`room_back`).
+-- The `&mut` goes to `put_first` at its own lifetime and is not needed afterwards (`gave_slice`). Each of the two arrays is lent as a slice for a lifetime that is made for the call (`lends_array`), and its room comes back when that lifetime has ended (`room_back`).
 -- The struct is plain data, of which what is owned is made anew where it is asked for (`owned`).
 -- Assumes nothing.
 use mathlib.Core.Path.{◌≡◌, refl, sym, ap, ap₂, ◌∙◌, subst}
@@ -48,7 +48,7 @@ use denote.Triple.Clauses.{ensured, Lasts, lasts}
 use denote.Triple.Table.{entered, cited}
 use denote.Triple.Walked.{says, Stays, stay_none, gave_slice, walk_of, Goes-none, Goes-gave_slice, Walks, ends_at, walked, walk_Meets}
 use denote.Exit.{yes}
-use Rattle.answers.specs.Records.{answersOf, putRecords}
+use Rattle.answers.specs.Records.{answers_of, put_records}
 use Rattle.answers.specs.declared.ItemAnswer.{ItemAnswer}
 use Rattle.answers.specs.declared.Answered.{Answered}
 use Rattle.answers.specs.contracts.ItemAnswer as R
@@ -68,9 +68,9 @@ use Rattle.answers.proofs.put_records.Statement as stated
 use Rattle.answers.proofs.put_records.Code as code
 
 -- only the numbers and the lengths are read of the answers
-same-records : (l : List ItemAnswer) (a : Answered) (k : ℕ) → putRecords l (answersOf a.numbers a.lengths) k ≡ putRecords l a k
-same-records l a zero = refl
-same-records l a (suc k) = rw (same-records l a k)
+same_records : (l : List ItemAnswer) (a : Answered) (k : ℕ) → put_records l (answers_of a.numbers a.lengths) k ≡ put_records l a k
+same_records l a zero = refl
+same_records l a (suc k) = rw (same_records l a k)
 
 abbrev stayed : Stays (put.ended).signature.params (put.ended).kept
 stayed = (gave_slice (0 ∷ []) tt (plain (λ _. R.the_row)), (stay_none (λ _. S.the_row) yes, tt))
@@ -82,8 +82,8 @@ bytes = ty_array (ty_int w8) 64
 abbrev held : List ℕ → Val
 held ys = array_val (map (vint w8) ys)
 
-room-64 : Room u8 64
-room-64 = (lit< tt, lit< tt)
+room_64 : Room u8 64
+room_64 = (lit< tt, lit< tt)
 
 -- the slice of the array ys at the local l
 abbrev lent_at : ℕ → List ℕ → GName → MutBor (List ℕ)
@@ -99,16 +99,16 @@ module _ {M : Type 1} {𝓤 : Ura M} (𝓛 : Logic 𝓤) (α l : ℕ) (ys : List
   abbrev lender : Fml
   lender = flent (α ∷ []) ((arr_parts (shares u8) (length ys)).part full_share ys l 0)
 
-  lends-array : (v : Val) → Is (Array u8 64) ys (v ∷ []) → ent 𝓤 (sem 𝓛 (fat full_share bytes l 0 v)) (H.⇛ (ex 𝓤 (λ (γ : GName). sep 𝓤 (sem 𝓛 (own_at γ)) (sem 𝓛 lender))))
+  lends_array : (v : Val) → Is (Array u8 64) ys (v ∷ []) → ent 𝓤 (sem 𝓛 (fat full_share bytes l 0 v)) (H.⇛ (ex 𝓤 (λ (γ : GName). sep 𝓤 (sem 𝓛 (own_at γ)) (sem 𝓛 lender))))
   unfolding part_of
-  lends-array v is =
+  lends_array v is =
       let long : length ys ≡ 64 = is.1.0.1 in
       qed 𝓛 (‵ (fat full_share bytes l 0 v) ∷ []) ∵ updating ! $
       owned ! (Array u8 64) (Is (Array u8 64)) (Array-Makes 𝓛 u8 (uint_Makes 𝓛 w8) 64) ys (v ∷ []) is $ move ! (1 ∷ 0 ∷ []) $ fjoin ! $
       fpack ! (List Val) (λ vs. fsep (cell_at full_share (bytes ∷ []) vs l 0) ((Array u8 64).own_val ys vs)) (v ∷ []) $
       use1 𝓛 (‵ ((arr_parts (shares u8) 64).part full_share ys l 0)) (Array-apart 𝓛 u8 full_share tt 64 ys l 0) $
       rewrite ! 0 (λ (m : ℕ). ‵ ((arr_parts (shares u8) m).part full_share ys l 0)) (sym long) refl $
-      use1 𝓛 (later (some (λ (γ : GName). ‵ ((ShrSlice (named 0) (α ∷ []) u8).own_val (lent_at l ys γ) (slice_val (l, 0) (length ys) ∷ [])) ⊛ ‵ lender))) (lends_shr_slice 𝓛 u8 (named 0) (α ∷ []) full_share ys l 0 (subst (Room u8) (sym long) room-64)) $
+      use1 𝓛 (later (some (λ (γ : GName). ‵ ((ShrSlice (named 0) (α ∷ []) u8).own_val (lent_at l ys γ) (slice_val (l, 0) (length ys) ∷ [])) ⊛ ‵ lender))) (lends_shr_slice 𝓛 u8 (named 0) (α ∷ []) full_share ys l 0 (subst (Room u8) (sym long) room_64)) $
       await ! tt $ pick ! (λ γ. split ! $ rewrite ! 0 (λ (m : ℕ). ‵ ((ShrSlice (named 0) (α ∷ []) u8).own_val (lent_at l ys γ) (slice_val (l, 0) m ∷ []))) long refl $
       at_once ! $ show ! (λ (δ : GName). sep 𝓤 (sem 𝓛 (own_at δ)) (sem 𝓛 lender)) γ $ done !)
 
@@ -153,8 +153,8 @@ module _ {M : Type 1} {𝓤 : Ura M} (𝓛 : Logic 𝓤) (mem : Memory → SProp
   abbrev Post : Val → SProp 𝓤
   Post = (walk_of 𝓛 put.ended stayed (put.clauses 𝓛 mem run)).post (((κ, tt), (q, tt), tt, args, vals), tt)
 
-  abbrev own-an : Fml
-  own-an = (MutSlice (named 0) κ R.the_row).own_val an (s ∷ [])
+  abbrev own_an : Fml
+  own_an = (MutSlice (named 0) κ R.the_row).own_val an (s ∷ [])
 
   -- the two arrays as the struct's fields have them
   abbrev ns : List ℕ
@@ -163,18 +163,18 @@ module _ {M : Type 1} {𝓤 : Ura M} (𝓛 : Logic 𝓤) (mem : Memory → SProp
   abbrev ls : List ℕ
   ls = map (λ (x : ℕ). x) a.lengths
 
-  is-ns : Is (Array u8 64) ns (held ns ∷ [])
-  is-ns = (LL.owed S.the_type S'.the_laws a _ is-a).1.0
+  is_ns : Is (Array u8 64) ns (held ns ∷ [])
+  is_ns = (LL.owed S.the_type S'.the_laws a _ is-a).1.0
 
-  is-ls : Is (Array u8 64) ls (held ls ∷ [])
-  is-ls = (LL.owed S.the_type S'.the_laws a _ is-a).1.1.0
+  is_ls : Is (Array u8 64) ls (held ls ∷ [])
+  is_ls = (LL.owed S.the_type S'.the_laws a _ is-a).1.1.0
 
   -- ---- `written`: what its triple binds outside, and that what it asks is had
-  abbrev to-written : (Written 𝓛 mem run).Ghost
-  to-written = ((tt, tt, tt, (a, (count, tt)), (mach ∷ [], (vint w64 count ∷ [], tt))), tt)
+  abbrev to_written : (Written 𝓛 mem run).Ghost
+  to_written = ((tt, tt, tt, (a, (count, tt)), (mach ∷ [], (vint w64 count ∷ [], tt))), tt)
 
-  goes-written : ent 𝓤 (emp 𝓤) ((Written 𝓛 mem run).pre to-written)
-  goes-written =
+  goes_written : ent 𝓤 (emp 𝓤) ((Written 𝓛 mem run).pre to_written)
+  goes_written =
       qed 𝓛 [] ∵ nothing ! $ owned ! usize (Is usize) (uint_Makes 𝓛 w64) count _ (refl, room.0) $ fjoin ! $ owned ! S.the_row (Is S.the_row) (LL.makes S.the_type S'.the_plain 𝓛) a _ is-a $ fjoin ! $
       nothing ! $ join ! $ frame ! $ done !
 
@@ -183,17 +183,17 @@ module _ {M : Type 1} {𝓤 : Ura M} (𝓛 : Logic 𝓤) (mem : Memory → SProp
     abbrev κs : Lfts 3
     κs = (κ, (α ∷ [], (β ∷ [], tt)))
 
-    abbrev to-args : Args first.signature κs
-    to-args = (an, (lent_at l ns γ, (lent_at m ls δ, (n, tt))))
+    abbrev to_args : Args first.signature κs
+    to_args = (an, (lent_at l ns γ, (lent_at m ls δ, (n, tt))))
 
-    abbrev to-first : (First 𝓛 mem run).Ghost
-    to-first = ((κs, (q, (full_share, (full_share, tt))), tt, to-args, (s ∷ [], (slice_val (l, 0) 64 ∷ [], (slice_val (m, 0) 64 ∷ [], (vint w64 n ∷ [], tt))))), tt)
+    abbrev to_first : (First 𝓛 mem run).Ghost
+    to_first = ((κs, (q, (full_share, (full_share, tt))), tt, to_args, (s ∷ [], (slice_val (l, 0) 64 ∷ [], (slice_val (m, 0) 64 ∷ [], (vint w64 n ∷ [], tt))))), tt)
 
     -- each reference with its token
     abbrev Lent : List (Item 𝓤)
-    Lent = (‵ (flft κ q) ⊛ ‵ own-an) ∷ (‵ (flft (α ∷ []) full_share) ⊛ ‵ (own_at 𝓛 α l ns γ)) ∷ (‵ (flft (β ∷ []) full_share) ⊛ ‵ (own_at 𝓛 β m ls δ)) ∷ []
+    Lent = (‵ (flft κ q) ⊛ ‵ own_an) ∷ (‵ (flft (α ∷ []) full_share) ⊛ ‵ (own_at 𝓛 α l ns γ)) ∷ (‵ (flft (β ∷ []) full_share) ⊛ ‵ (own_at 𝓛 β m ls δ)) ∷ []
 
-    goes_first : n ≡ min a.filled count → n < 2 ^ 64 → ent 𝓤 (⋆ 𝓛 Lent) ((First 𝓛 mem run).pre to-first)
+    goes_first : n ≡ min a.filled count → n < 2 ^ 64 → ent 𝓤 (⋆ 𝓛 Lent) ((First 𝓛 mem run).pre to_first)
     goes_first n-is n-fits =
         qed 𝓛 Lent ∵ says ! (le_trans (le_of_eq n-is) (min-le_right a.filled count)) $ split ! $ move ! (2 ∷ []) $ split ! $ move ! (4 ∷ []) $ split ! $
         -- [β's token; lengths; α's token; numbers; answers' token; answers]
@@ -204,16 +204,16 @@ module _ {M : Type 1} {𝓤 : Ura M} (𝓛 : Logic 𝓤) (mem : Memory → SProp
     abbrev Tokens : Item 𝓤
     Tokens = ‵ (flft κ q) ⊛ ‵ (flft (α ∷ []) full_share) ⊛ ‵ (flft (β ∷ []) full_share) ⊛ ‵ ftrue
 
-    abbrev Said : Lasts first.ended κs to-args → Type 0
-    Said zs = zs.0 ≡ putRecords an.now (answersOf ns ls) n
+    abbrev Said : Lasts first.ended κs to_args → Type 0
+    Said zs = zs.0 ≡ put_records an.now (answers_of ns ls) n
 
     -- ---- the exit: what is said of the last list, and the struct
-    exits : n ≡ min a.filled count → (zs : Lasts first.ended κs to-args) → Said zs → ent 𝓤 (⋆ 𝓛 ((‵ (flft κ q) ⊛ ‵ ftrue) ∷ ‵ (lasts first.ended κs to-args zs) ∷ [])) (Post vunit)
+    exits : n ≡ min a.filled count → (zs : Lasts first.ended κs to_args) → Said zs → ent 𝓤 (⋆ 𝓛 ((‵ (flft κ q) ⊛ ‵ ftrue) ∷ ‵ (lasts first.ended κs to_args zs) ∷ [])) (Post vunit)
     exits n-is zs e =
-        qed 𝓛 ((‵ (flft κ q) ⊛ ‵ ftrue) ∷ ‵ (lasts first.ended κs to-args zs) ∷ []) ∵
+        qed 𝓛 ((‵ (flft κ q) ⊛ ‵ ftrue) ∷ ‵ (lasts first.ended κs to_args zs) ∷ []) ∵
         move ! (1 ∷ []) $ fsplit ! $ fsplit ! $ move ! (1 ∷ []) $ feq_l ! (λ long. move ! (1 ∷ []) $ drop ! $
         suffices ! _ (ends_at 𝓛 put.ended stayed (put.clauses 𝓛 mem run) (((κ, tt), (q, tt), tt, args, vals), tt) vunit tt (zs.0, (tt, tt)) (long, (tt, tt))) $
-        says ! (e ∙ ap₂ (λ (xs ys : List ℕ). putRecords an.now (answersOf xs ys) n) (map-id a.numbers) (map-id a.lengths) ∙ same-records an.now a n ∙ ap (λ (k : ℕ). putRecords an.now a k) n-is) $
+        says ! (e ∙ ap₂ (λ (xs ys : List ℕ). put_records an.now (answers_of xs ys) n) (map-id a.numbers) (map-id a.lengths) ∙ same_records an.now a n ∙ ap (λ (k : ℕ). put_records an.now a k) n-is) $
         move ! (1 ∷ []) $ frame ! $ nothing ! $ owned ! S.the_row (Is S.the_row) (LL.makes S.the_type S'.the_plain 𝓛) a _ is-a $ fjoin ! $ move ! (1 ∷ 0 ∷ []) $ fjoin ! $
         feq_i ! (List Val) (vunit ∷ []) (vunit ∷ []) refl $ move ! (1 ∷ 0 ∷ []) $ done !)
 
@@ -227,15 +227,15 @@ module _ {M : Type 1} {𝓤 : Ura M} (𝓛 : Logic 𝓤) (mem : Memory → SProp
         -- [answers with its token; _13; …; _12; …; …; _1; …; room for _0; …]: local i stands at 27 - 2 * i
         assigns ! (of_opd ! (load ! (from ! (fld ! refl (stop !))) (look_in ! 25 (sub ! 1 refl (whole !))))) (from ! (stop !)) (init ! 15 refl (tt, record { fits = room.0 })) $
         -- `written`
-        use0 𝓛 (raw ((Written 𝓛 mem run).pre to-written)) goes-written $
-        calls_at ! fm (Written 𝓛 mem run) known_written to-written (and_then ! (load ! (from ! (stop !)) (look ! 24 refl)) (and_then ! (load ! (from ! (stop !)) (look ! 16 refl)) (no_more !))) (λ v.
+        use0 𝓛 (raw ((Written 𝓛 mem run).pre to_written)) goes_written $
+        calls_at ! fm (Written 𝓛 mem run) known_written to_written (and_then ! (load ! (from ! (stop !)) (look ! 24 refl)) (and_then ! (load ! (from ! (stop !)) (look ! 16 refl)) (no_more !))) (λ v.
         use1 𝓛 (later (some (λ (n : ℕ). (‵ ftrue ⊛ ‵ (usize.own_val n (v ∷ []))) ⊛ raw (ensured 𝓛 written.ended (written.clauses 𝓛 mem run) tt (a, (count, tt)) tt n)))) (id⊢ 𝓤 _) $ await ! tt $ pick ! (λ n.
         split ! $ move ! (1 ∷ []) $ use1 𝓛 (raw (fact 𝓤 (n ≡ min a.filled count))) (written_of 𝓛 mem run a count n) $ heard ! (n ≡ min a.filled count) (λ n-is. split ! $ drop ! $
         facts ! usize (Is usize) (shows 𝓛 usize) n (v ∷ []) (λ is.
         land ! (from ! (stop !)) (init ! 21 refl ((uint_Lawful 𝓛 w64).typed n _ is).0) $ rewrite ! 21 (λ (u : Val). ‵ (fat full_share (ty_int w64) l₃ 0 u)) (ap only is.0) refl $
         -- both arrays are copied, and the slices made
-        assigns ! (of_opd ! (load ! (from ! (fld ! refl (stop !))) (look_in ! 23 (sub ! 1 refl (whole !))))) (from ! (stop !)) (init ! 19 refl ((Array-Lawful 𝓛 u8 (uint_Lawful 𝓛 w8) 64).typed ns _ is-ns).0) $
-        assigns ! (of_opd ! (load ! (from ! (fld ! refl (stop !))) (look_in ! 23 (sub ! 2 refl (whole !))))) (from ! (stop !)) (init ! 17 refl ((Array-Lawful 𝓛 u8 (uint_Lawful 𝓛 w8) 64).typed ls _ is-ls).0) $
+        assigns ! (of_opd ! (load ! (from ! (fld ! refl (stop !))) (look_in ! 23 (sub ! 1 refl (whole !))))) (from ! (stop !)) (init ! 19 refl ((Array-Lawful 𝓛 u8 (uint_Lawful 𝓛 w8) 64).typed ns _ is_ns).0) $
+        assigns ! (of_opd ! (load ! (from ! (fld ! refl (stop !))) (look_in ! 23 (sub ! 2 refl (whole !))))) (from ! (stop !)) (init ! 17 refl ((Array-Lawful 𝓛 u8 (uint_Lawful 𝓛 w8) 64).typed ls _ is_ls).0) $
         assigns ! (addr ! (from ! (fld ! refl (hop ! (look_in ! 25 (sub ! 0 refl (whole !))) (stop !))))) (from ! (stop !)) (init ! 11 refl (tt, tt)) $
         assigns ! (agg ! (and_then ! (load ! (from ! (stop !)) (look ! 11 refl)) (and_then ! (load ! (from ! (fld ! refl (stop !))) (look_in ! 25 (sub ! 1 refl (whole !)))) (no_more !)))) (from ! (stop !)) (init ! 9 refl (tt, (tt, (record { fits = room.0 }, tt)))) $
         assigns ! (addr ! (from ! (stop !))) (from ! (stop !)) (init ! 7 refl (tt, tt)) $
@@ -243,21 +243,21 @@ module _ {M : Type 1} {𝓤 : Ura M} (𝓛 : Logic 𝓤) (mem : Memory → SProp
         assigns ! (addr ! (from ! (stop !))) (from ! (stop !)) (init ! 3 refl (tt, tt)) $
         assigns ! (agg ! (and_then ! (load ! (from ! (stop !)) (look ! 3 refl)) (and_then ! (lit ! tt) (no_more !)))) (from ! (stop !)) (init ! 1 refl (tt, (tt, (record { fits = lit< tt }, tt)))) $
         -- the arrays are lent
-        lft_new ! tt (λ α. move ! (20 ∷ []) $ use1 𝓛 (later (some (λ (γ : GName). ‵ (own_at 𝓛 α l₄ ns γ) ⊛ ‵ (lender 𝓛 α l₄ ns)))) (lends-array 𝓛 α l₄ ns (held ns) is-ns) $ await ! tt $ pick ! (λ γ. split ! $ move ! (2 ∷ 0 ∷ []) $ join ! $
-        lft_new ! tt (λ β. move ! (20 ∷ []) $ use1 𝓛 (later (some (λ (δ : GName). ‵ (own_at 𝓛 β l₅ ls δ) ⊛ ‵ (lender 𝓛 β l₅ ls)))) (lends-array 𝓛 β l₅ ls (held ls) is-ls) $ await ! tt $ pick ! (λ δ. split ! $ move ! (2 ∷ 0 ∷ []) $ join ! $
+        lft_new ! tt (λ α. move ! (20 ∷ []) $ use1 𝓛 (later (some (λ (γ : GName). ‵ (own_at 𝓛 α l₄ ns γ) ⊛ ‵ (lender 𝓛 α l₄ ns)))) (lends_array 𝓛 α l₄ ns (held ns) is_ns) $ await ! tt $ pick ! (λ γ. split ! $ move ! (2 ∷ 0 ∷ []) $ join ! $
+        lft_new ! tt (λ β. move ! (20 ∷ []) $ use1 𝓛 (later (some (λ (δ : GName). ‵ (own_at 𝓛 β l₅ ls δ) ⊛ ‵ (lender 𝓛 β l₅ ls)))) (lends_array 𝓛 β l₅ ls (held ls) is_ls) $ await ! tt $ pick ! (λ δ. split ! $ move ! (2 ∷ 0 ∷ []) $ join ! $
         -- [lengths; its lender's part; numbers; its lender's part; answers; _13; …]
         -- `put_first`
-        move ! (4 ∷ 2 ∷ 0 ∷ []) $ use3 𝓛 (raw ((First 𝓛 mem run).pre (to-first n α l₄ β l₅ γ δ))) (goes_first n α l₄ β l₅ γ δ n-is is.1) $
-        calls_at ! fm (First 𝓛 mem run) known-first (to-first n α l₄ β l₅ γ δ) (and_then ! (load ! (from ! (stop !)) (look ! 11 refl)) (and_then ! (load ! (from ! (stop !)) (look ! 7 refl)) (and_then ! (load ! (from ! (stop !)) (look ! 3 refl)) (and_then ! (load ! (from ! (stop !)) (look ! 21 refl)) (no_more !))))) (λ w.
-        use1 𝓛 (later (some (λ (u : Unit {0}). (Tokens n α l₄ β l₅ γ δ ⊛ ‵ (unit.own_val u (w ∷ []))) ⊛ raw (ensured 𝓛 first.ended (first.clauses 𝓛 mem run) (κs n α l₄ β l₅ γ δ) (to-args n α l₄ β l₅ γ δ) tt u)))) (id⊢ 𝓤 _) $ await ! tt $ pick ! (λ u.
-        split ! $ move ! (1 ∷ []) $ use1 𝓛 (some (λ (zs : Lasts first.ended (κs n α l₄ β l₅ γ δ) (to-args n α l₄ β l₅ γ δ)). ‵ (lasts first.ended (κs n α l₄ β l₅ γ δ) (to-args n α l₄ β l₅ γ δ) zs) ⊛ raw (fact 𝓤 (Said n α l₄ β l₅ γ δ zs)))) (id⊢ 𝓤 _) $ pick ! (λ zs.
+        move ! (4 ∷ 2 ∷ 0 ∷ []) $ use3 𝓛 (raw ((First 𝓛 mem run).pre (to_first n α l₄ β l₅ γ δ))) (goes_first n α l₄ β l₅ γ δ n-is is.1) $
+        calls_at ! fm (First 𝓛 mem run) known-first (to_first n α l₄ β l₅ γ δ) (and_then ! (load ! (from ! (stop !)) (look ! 11 refl)) (and_then ! (load ! (from ! (stop !)) (look ! 7 refl)) (and_then ! (load ! (from ! (stop !)) (look ! 3 refl)) (and_then ! (load ! (from ! (stop !)) (look ! 21 refl)) (no_more !))))) (λ w.
+        use1 𝓛 (later (some (λ (u : Unit {0}). (Tokens n α l₄ β l₅ γ δ ⊛ ‵ (unit.own_val u (w ∷ []))) ⊛ raw (ensured 𝓛 first.ended (first.clauses 𝓛 mem run) (κs n α l₄ β l₅ γ δ) (to_args n α l₄ β l₅ γ δ) tt u)))) (id⊢ 𝓤 _) $ await ! tt $ pick ! (λ u.
+        split ! $ move ! (1 ∷ []) $ use1 𝓛 (some (λ (zs : Lasts first.ended (κs n α l₄ β l₅ γ δ) (to_args n α l₄ β l₅ γ δ)). ‵ (lasts first.ended (κs n α l₄ β l₅ γ δ) (to_args n α l₄ β l₅ γ δ) zs) ⊛ raw (fact 𝓤 (Said n α l₄ β l₅ γ δ zs)))) (id⊢ 𝓤 _) $ pick ! (λ zs.
         split ! $ move ! (1 ∷ []) $ heard ! (Said n α l₄ β l₅ γ δ zs) (λ e.
         move ! (1 ∷ []) $ split ! $ move ! (1 ∷ []) $ facts ! unit (Is unit) (shows 𝓛 unit) u (w ∷ []) (λ is-u.
         -- [the tokens; the last list; the lender's parts of lengths and of numbers; _13; …]
         land ! (from ! (stop !)) (init ! 16 refl ((Nothing-Lawful 𝓛).typed u _ is-u).0) $
         -- both lifetimes end, and the arrays' room comes back
-        split ! $ move ! (1 ∷ []) $ split ! $ lft_end ! tt $ move ! (0 ∷ 5 ∷ []) $ use2 𝓛 (later (‵ (froom bytes l₄ 0))) (room_back 𝓛 α l₄ ns is-ns.1.0.1) $ await ! tt $
-        move ! (1 ∷ []) $ split ! $ lft_end ! tt $ move ! (0 ∷ 5 ∷ []) $ use2 𝓛 (later (‵ (froom bytes l₅ 0))) (room_back 𝓛 β l₅ ls is-ls.1.0.1) $ await ! tt $
+        split ! $ move ! (1 ∷ []) $ split ! $ lft_end ! tt $ move ! (0 ∷ 5 ∷ []) $ use2 𝓛 (later (‵ (froom bytes l₄ 0))) (room_back 𝓛 α l₄ ns is_ns.1.0.1) $ await ! tt $
+        move ! (1 ∷ []) $ split ! $ lft_end ! tt $ move ! (0 ∷ 5 ∷ []) $ use2 𝓛 (later (‵ (froom bytes l₅ 0))) (room_back 𝓛 β l₅ ls is_ls.1.0.1) $ await ! tt $
         move ! (3 ∷ 1 ∷ []) $ join ! $
         -- [answers' token; room for _5; room for _4; the last list; _13; …; …; _6; …; and that _5 and _4 die; _3; …; …; room for _0; …]
         assigns ! (of_opd ! (unit_lit !)) (from ! (stop !)) (init ! 28 refl (tt, tt)) $ returns ! (look ! 28 refl) $
@@ -280,9 +280,9 @@ module _ {M : Type 1} {𝓤 : Ura M} (𝓛 : Logic 𝓤) (mem : Memory → SProp
       walk_Meets 𝓛 put.ended stayed (Goes-gave_slice 𝓛 1 0 tt (plain (λ _. R.the_row)), (Goes-none 𝓛 1 (λ _. S.the_row) yes (λ κs x f. refl), tt)) (put.clauses 𝓛 mem run)
       (WpFn 𝓤 H 𝓣.C 𝓣.Λ code.function) (WpFn-mono 𝓤 H 𝓛.laws 𝓣 code.function) put_walks
 
-pub put-records-spec : {M : Type 1} → stated.statement M
+pub put_records_spec : {M : Type 1} → stated.statement M
 unfolding code.routine tables_of
-put-records-spec 𝓤 𝓛 𝓜 𝓡 =
+put_records_spec 𝓤 𝓛 𝓜 𝓡 =
     entered 𝓤 𝓛.H (triple_of 𝓛 put.signature (put.spec 𝓛 𝓜.mem 𝓡.run))
     (tables 𝓤 𝓛.H 𝓜 𝓡 code.env).C (tables 𝓤 𝓛.H 𝓜 𝓡 code.env).Λ #answers·put-records code.function (code.unfolded 𝓤 𝓛.H 𝓜 𝓡)
     (put_meets 𝓛 𝓜.mem 𝓡.run (tables_of 𝓤 𝓛.H 𝓜 (tables 𝓤 𝓛.H 𝓜 𝓡 code.env))

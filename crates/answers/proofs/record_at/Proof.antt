@@ -13,5 +13,5 @@ entry-requires-2 c κs = search rules
 returns : tie.Need-returns
 returns c = λ i. record { number = c.before.entry.ensures i; length = c.entry2.ensures i }
 
-pub record-at-spec : {M : Type 1} → statement M
-record-at-spec = tie.close (tie.spec entry-requires entry-requires-2 returns)
+pub record_at_spec : {M : Type 1} → statement M
+record_at_spec = tie.close (tie.spec entry-requires entry-requires-2 returns)

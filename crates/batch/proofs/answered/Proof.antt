@@ -3,8 +3,8 @@
 use mathlib.Core.Path.{refl}
 use lib.ListN.{replicate}
 use borrow.Author.Rules.{rules}
-use Rattle.batches.specs.Batch.{lends, onState}
-use Rattle.batches.proofs.Whole.{room-long, given, not-given}
+use Rattle.batches.specs.Batch.{lends, on_state}
+use Rattle.batches.proofs.Whole.{room_long, given, not_given}
 use Rattle.batch.proofs.answered.Statement.{statement}
 use Rattle.batch.proofs.answered.Tie as tie
 
@@ -15,13 +15,13 @@ array-borrow-prefix-numbers : tie.Need-array-borrow-prefix-numbers
 array-borrow-prefix-numbers c = search rules
 
 slice-aggregate-batch-numbers : tie.Need-slice-aggregate-batch-numbers
-slice-aggregate-batch-numbers c = room-long _ c.before.before.before.lesser.ensures (replicate 64 0) refl
+slice-aggregate-batch-numbers c = room_long _ c.before.before.before.lesser.ensures (replicate 64 0) refl
 
 array-borrow-prefix-sizes : tie.Need-array-borrow-prefix-sizes
 array-borrow-prefix-sizes c = search rules
 
 slice-aggregate-batch-numbers-2 : tie.Need-slice-aggregate-batch-numbers-2
-slice-aggregate-batch-numbers-2 c = room-long _ c.before.before.before.before.lesser.ensures (replicate 64 0) refl
+slice-aggregate-batch-numbers-2 c = room_long _ c.before.before.before.before.lesser.ensures (replicate 64 0) refl
 
 batch-numbers-requires : tie.Need-batch-numbers-requires
 batch-numbers-requires c κs = search rules
@@ -40,7 +40,7 @@ returns c =
     let b = c.before.before.before.before.before.before.before.before in
     let l = b.before.before.before.before.before in
     let a = l.before.before.before.before.before.before.before.args in
-    given a.records l.lesser.ensures (replicate 64 0) refl onState a.s
+    given a.records l.lesser.ensures (replicate 64 0) refl on_state a.s
     (lends a.bytes.now a.starts.now a.lengths.now a.symbols.now a.image.now a.replies.now) b.batch-numbers.ensures _
     c.before.verdict-number.ensures c.if1.true refl
 
@@ -55,12 +55,12 @@ returns-2 c =
     let b = c.before.before.before.before.before.before.before.before in
     let l = b.before.before.before.before.before in
     let a = l.before.before.before.before.before.before.before.args in
-    not-given a.records l.lesser.ensures (replicate 64 0) refl onState a.s
+    not_given a.records l.lesser.ensures (replicate 64 0) refl on_state a.s
     (lends a.bytes.now a.starts.now a.lengths.now a.symbols.now a.image.now a.replies.now) b.batch-numbers.ensures _
     c.before.verdict-number.ensures c.if1.false refl
 
-pub answered-spec : {M : Type 1} → statement M
-answered-spec =
+pub answered_spec : {M : Type 1} → statement M
+answered_spec =
     tie.close
     (tie.spec
     lesser-requires

@@ -38,7 +38,7 @@ use denote.Triple.Clauses.{Lasts, ensured, lasts}
 use denote.Triple.Table.{entered, cited}
 use denote.Triple.Walked.{says, Stays, stay_none, stay_none_slice, gave_slice, walk_of, Goes-none, Goes-none_slice, Goes-gave_slice, Walks, ends_at, walked, walk_Meets}
 use denote.Exit.{yes}
-use Rattle.answers.specs.Records.{putRecords}
+use Rattle.answers.specs.Records.{put_records}
 use Rattle.answers.specs.declared.ItemAnswer.{ItemAnswer}
 use Rattle.answers.specs.declared.Answered.{Answered}
 use Rattle.answers.specs.contracts.ItemAnswer as R
@@ -51,7 +51,7 @@ use Rattle.answers.proofs.put_records.Met as put-thm
 use Rattle.rules.specs.declared.State.{State}
 use Rattle.rules.specs.contracts.State as T
 use Rattle.rules.proofs.State.TheLaws as T'
-use Rattle.batches.specs.Batch.{lends, onState, Batch, batch, LeftAs, Answers}
+use Rattle.batches.specs.Batch.{lends, on_state, Batch, batch, LeftAs, Answers}
 use Rattle.batches.specs.declared.BatchReturned.{BatchReturned}
 use Rattle.batches.specs.contracts.BatchReturned as X
 use Rattle.batches.proofs.BatchReturned.TheLaws as X'
@@ -108,11 +108,11 @@ module _ {M : Type 1} {𝓤 : Ura M} (𝓛 : Logic 𝓤) (mem : Memory → SProp
   ReturnedOf = triple_of 𝓛 returned-of.signature (returned-of.spec 𝓛 mem run)
 
   -- of the `ensured` of `answers_of` and of `returned_of`, the clause alone
-  answers-said : (r : BatchAnswered) (a : Answered) → ent 𝓤 (ensured 𝓛 Answers-of.ended (Answers-of.clauses 𝓛 mem run) tt (r, tt) tt a) (fact 𝓤 (a ≡ r.answers))
-  answers-said r a = ex_e 𝓤 _ (λ ws. snd∗ 𝓤 (sem 𝓛 (lasts Answers-of.ended tt (r, tt) ws)) (fact 𝓤 (a ≡ r.answers)))
+  answers_said : (r : BatchAnswered) (a : Answered) → ent 𝓤 (ensured 𝓛 Answers-of.ended (Answers-of.clauses 𝓛 mem run) tt (r, tt) tt a) (fact 𝓤 (a ≡ r.answers))
+  answers_said r a = ex_e 𝓤 _ (λ ws. snd∗ 𝓤 (sem 𝓛 (lasts Answers-of.ended tt (r, tt) ws)) (fact 𝓤 (a ≡ r.answers)))
 
-  returned-said : (r : BatchAnswered) (x : BatchReturned) → ent 𝓤 (ensured 𝓛 returned-of.ended (returned-of.clauses 𝓛 mem run) tt (r, tt) tt x) (fact 𝓤 (x ≡ r.returned))
-  returned-said r x = ex_e 𝓤 _ (λ ws. snd∗ 𝓤 (sem 𝓛 (lasts returned-of.ended tt (r, tt) ws)) (fact 𝓤 (x ≡ r.returned)))
+  returned_said : (r : BatchAnswered) (x : BatchReturned) → ent 𝓤 (ensured 𝓛 returned-of.ended (returned-of.clauses 𝓛 mem run) tt (r, tt) tt x) (fact 𝓤 (x ≡ r.returned))
+  returned_said r x = ex_e 𝓤 _ (λ ws. snd∗ 𝓤 (sem 𝓛 (lasts returned-of.ended tt (r, tt) ws)) (fact 𝓤 (x ≡ r.returned)))
 
 module _ {M : Type 1} {𝓤 : Ura M} (𝓛 : Logic 𝓤) (mem : Memory → SProp 𝓤) (run : Routine → Fun 𝓤)
     (κ₀ κ₁ κ₂ κ₃ κ₄ κ₅ κ₆ : Lft) (q₀ q₁ q₂ q₃ q₄ q₅ q₆ : Share) (s : State) (bs ss ls sy im rs : Bor (List ℕ)) (an : Bor (List ItemAnswer))
@@ -124,7 +124,7 @@ module _ {M : Type 1} {𝓤 : Ura M} (𝓛 : Logic 𝓤) (mem : Memory → SProp
 
   -- ---- what the core's contract says
   abbrev o : Batch State
-  o = batch onState s (lends bs.now ss.now ls.now sy.now im.now rs.now) room
+  o = batch on_state s (lends bs.now ss.now ls.now sy.now im.now rs.now) room
 
   abbrev Said : BatchAnswered → (im' rs' : List ℕ) → Type 0
   Said r im' rs' = (r.returned.verdict ≡ o.verdict) × Answers r.answers room o.left.answers × LeftAs o r.returned.state im' rs'
@@ -161,8 +161,8 @@ module _ {M : Type 1} {𝓤 : Ura M} (𝓛 : Logic 𝓤) (mem : Memory → SProp
   abbrev vals₆ : Vals core.signature κs₆
   vals₆ = (LL.vals T.the_type T'.the_laws s, (shr_slice_vals bs, (shr_slice_vals ss, (shr_slice_vals ls, (shr_slice_vals sy, (shr_slice_vals im, (shr_slice_vals rs, (vint w64 room ∷ [], tt))))))))
 
-  abbrev to-core : (Core 𝓛 mem run).Ghost
-  to-core = ((κs₆, qs₆, tt, args₆, vals₆), tt)
+  abbrev to_core : (Core 𝓛 mem run).Ghost
+  to_core = ((κs₆, qs₆, tt, args₆, vals₆), tt)
 
   abbrev Tokens₆ : Item 𝓤
   Tokens₆ = ‵ (flft κ₀ q₀) ⊛ ‵ (flft κ₁ q₁) ⊛ ‵ (flft κ₂ q₂) ⊛ ‵ (flft κ₃ q₃) ⊛ ‵ (flft κ₄ q₄) ⊛ ‵ (flft κ₅ q₅) ⊛ ‵ ftrue
@@ -171,39 +171,39 @@ module _ {M : Type 1} {𝓤 : Ura M} (𝓛 : Logic 𝓤) (mem : Memory → SProp
   Tokens = ‵ (flft κ₀ q₀) ⊛ ‵ (flft κ₁ q₁) ⊛ ‵ (flft κ₂ q₂) ⊛ ‵ (flft κ₃ q₃) ⊛ ‵ (flft κ₄ q₄) ⊛ ‵ (flft κ₅ q₅) ⊛ ‵ (flft κ₆ q₆) ⊛ ‵ ftrue
 
   -- what each `&` owns, and the answers
-  abbrev own-bs : Fml
-  own-bs = (ShrSlice (named 0) κ₀ u8).own_val bs (shr_slice_vals bs)
+  abbrev own_bs : Fml
+  own_bs = (ShrSlice (named 0) κ₀ u8).own_val bs (shr_slice_vals bs)
 
-  abbrev own-ss : Fml
-  own-ss = (ShrSlice (named 1) κ₁ u32).own_val ss (shr_slice_vals ss)
+  abbrev own_ss : Fml
+  own_ss = (ShrSlice (named 1) κ₁ u32).own_val ss (shr_slice_vals ss)
 
-  abbrev own-ls : Fml
-  own-ls = (ShrSlice (named 2) κ₂ u32).own_val ls (shr_slice_vals ls)
+  abbrev own_ls : Fml
+  own_ls = (ShrSlice (named 2) κ₂ u32).own_val ls (shr_slice_vals ls)
 
-  abbrev own-sy : Fml
-  own-sy = (ShrSlice (named 3) κ₃ u8).own_val sy (shr_slice_vals sy)
+  abbrev own_sy : Fml
+  own_sy = (ShrSlice (named 3) κ₃ u8).own_val sy (shr_slice_vals sy)
 
-  abbrev own-an : Fml
-  own-an = (MutSlice (named 0) κ₆ R.the_row).own_val an (mut_slice_vals an)
+  abbrev own_an : Fml
+  own_an = (MutSlice (named 0) κ₆ R.the_row).own_val an (mut_slice_vals an)
 
   -- what the walk keeps while the core runs
   abbrev Shared : Item 𝓤
-  Shared = ‵ own-sy ⊛ ‵ own-ls ⊛ ‵ own-ss ⊛ ‵ own-bs
+  Shared = ‵ own_sy ⊛ ‵ own_ls ⊛ ‵ own_ss ⊛ ‵ own_bs
 
   abbrev Kept : Item 𝓤
-  Kept = (‵ (flft κ₆ q₆) ⊛ ‵ own-an) ⊛ Shared
+  Kept = (‵ (flft κ₆ q₆) ⊛ ‵ own_an) ⊛ Shared
 
-  asked-core : ent 𝓤 (on_entry 𝓛 core.signature κs₆ qs₆ args₆ vals₆) ((Core 𝓛 mem run).pre to-core)
-  asked-core = qed 𝓛 (raw (on_entry 𝓛 core.signature κs₆ qs₆ args₆ vals₆) ∷ []) ∵ frame ! $ done !
+  asked_core : ent 𝓤 (on_entry 𝓛 core.signature κs₆ qs₆ args₆ vals₆) ((Core 𝓛 mem run).pre to_core)
+  asked_core = qed 𝓛 (raw (on_entry 𝓛 core.signature κs₆ qs₆ args₆ vals₆) ∷ []) ∵ frame ! $ done !
 
   -- what is had on entry gives what the core asks, and what is kept
-  apart : Room R.the_row room → ent 𝓤 (on_entry 𝓛 fn.signature κs qs args vals) (mean 𝓛 (raw ((Core 𝓛 mem run).pre to-core) ⊛ Kept))
+  apart : Room R.the_row room → ent 𝓤 (on_entry 𝓛 fn.signature κs qs args vals) (mean 𝓛 (raw ((Core 𝓛 mem run).pre to_core) ⊛ Kept))
   apart fits =
       qed 𝓛 (Tokens ∷ ‵ (owns (T.the_row ∷ ShrSlice (named 0) κ₀ u8 ∷ ShrSlice (named 1) κ₁ u32 ∷ ShrSlice (named 2) κ₂ u32 ∷ ShrSlice (named 3) κ₃ u8 ∷ MutSlice (named 4) κ₄ u32 ∷ MutSlice (named 5) κ₅ u8 ∷ MutSlice (named 6) κ₆ R.the_row ∷ []) args vals) ∷ []) ∵
-      move ! (1 ∷ []) $ fsplit ! $ move ! (1 ∷ []) $ fsplit ! $ use1 𝓛 (‵ own-bs ⊛ ‵ own-bs) ((shr_slice_copy 𝓛 (named 0) κ₀ u8).twice bs (shr_slice_vals bs)) $ split ! $
-      move ! (2 ∷ []) $ fsplit ! $ use1 𝓛 (‵ own-ss ⊛ ‵ own-ss) ((shr_slice_copy 𝓛 (named 1) κ₁ u32).twice ss (shr_slice_vals ss)) $ split ! $
-      move ! (2 ∷ []) $ fsplit ! $ use1 𝓛 (‵ own-ls ⊛ ‵ own-ls) ((shr_slice_copy 𝓛 (named 2) κ₂ u32).twice ls (shr_slice_vals ls)) $ split ! $
-      move ! (2 ∷ []) $ fsplit ! $ use1 𝓛 (‵ own-sy ⊛ ‵ own-sy) ((shr_slice_copy 𝓛 (named 3) κ₃ u8).twice sy (shr_slice_vals sy)) $ split ! $
+      move ! (1 ∷ []) $ fsplit ! $ move ! (1 ∷ []) $ fsplit ! $ use1 𝓛 (‵ own_bs ⊛ ‵ own_bs) ((shr_slice_copy 𝓛 (named 0) κ₀ u8).twice bs (shr_slice_vals bs)) $ split ! $
+      move ! (2 ∷ []) $ fsplit ! $ use1 𝓛 (‵ own_ss ⊛ ‵ own_ss) ((shr_slice_copy 𝓛 (named 1) κ₁ u32).twice ss (shr_slice_vals ss)) $ split ! $
+      move ! (2 ∷ []) $ fsplit ! $ use1 𝓛 (‵ own_ls ⊛ ‵ own_ls) ((shr_slice_copy 𝓛 (named 2) κ₂ u32).twice ls (shr_slice_vals ls)) $ split ! $
+      move ! (2 ∷ []) $ fsplit ! $ use1 𝓛 (‵ own_sy ⊛ ‵ own_sy) ((shr_slice_copy 𝓛 (named 3) κ₃ u8).twice sy (shr_slice_vals sy)) $ split ! $
       move ! (2 ∷ []) $ fsplit ! $ move ! (1 ∷ []) $ fsplit ! $ move ! (1 ∷ []) $ fsplit ! $
       -- [answers; true; replies; image; symbols, twice; lengths, twice; starts, twice; bytes, twice; state; the tokens]
       move ! (1 ∷ []) $ owned ! usize (Is usize) (uint_Makes 𝓛 w64) room _ (refl, fits.0) $ fjoin ! $ move ! (2 ∷ 0 ∷ []) $ fjoin ! $ move ! (2 ∷ 0 ∷ []) $ fjoin ! $ move ! (2 ∷ 0 ∷ []) $ fjoin ! $
@@ -212,35 +212,35 @@ module _ {M : Type 1} {𝓤 : Ura M} (𝓛 : Logic 𝓤) (mem : Memory → SProp
       move ! (6 ∷ []) $ split ! $ move ! (1 ∷ []) $ split ! $ move ! (1 ∷ []) $ split ! $ move ! (1 ∷ []) $ split ! $ move ! (1 ∷ []) $ split ! $ move ! (1 ∷ []) $ split ! $ move ! (1 ∷ []) $ split ! $
       move ! (2 ∷ 1 ∷ []) $ join ! $ move ! (2 ∷ 0 ∷ []) $ join ! $ move ! (2 ∷ 0 ∷ []) $ join ! $ move ! (2 ∷ 0 ∷ []) $ join ! $ move ! (2 ∷ 0 ∷ []) $ join ! $ move ! (2 ∷ 0 ∷ []) $ join ! $
       -- [the core's tokens; answers' token; what the core is passed; answers; symbols; lengths; starts; bytes]
-      move ! (0 ∷ 2 ∷ []) $ use2 𝓛 (raw ((Core 𝓛 mem run).pre to-core)) asked-core $ frame ! $ join ! $ frame ! $ done !
+      move ! (0 ∷ 2 ∷ []) $ use2 𝓛 (raw ((Core 𝓛 mem run).pre to_core)) asked_core $ frame ! $ join ! $ frame ! $ done !
 
   -- ---- what `answers_of` and `returned_of` are passed: the core's result r, at the machine value v
   module _ (r : BatchAnswered) (v : Val) (is-r : Is B.the_row r (v ∷ [])) where
-    abbrev to-answers : (AnswersOf 𝓛 mem run).Ghost
-    to-answers = ((tt, tt, tt, (r, tt), (v ∷ [], tt)), tt)
+    abbrev to_answers : (AnswersOf 𝓛 mem run).Ghost
+    to_answers = ((tt, tt, tt, (r, tt), (v ∷ [], tt)), tt)
 
-    goes-answers : ent 𝓤 (emp 𝓤) ((AnswersOf 𝓛 mem run).pre to-answers)
-    goes-answers = qed 𝓛 [] ∵ nothing ! $ owned ! B.the_row (Is B.the_row) (LL.makes B.the_type B'.the_plain 𝓛) r _ is-r $ fjoin ! $ nothing ! $ join ! $ frame ! $ done !
+    goes_answers : ent 𝓤 (emp 𝓤) ((AnswersOf 𝓛 mem run).pre to_answers)
+    goes_answers = qed 𝓛 [] ∵ nothing ! $ owned ! B.the_row (Is B.the_row) (LL.makes B.the_type B'.the_plain 𝓛) r _ is-r $ fjoin ! $ nothing ! $ join ! $ frame ! $ done !
 
-    abbrev to-returned : (ReturnedOf 𝓛 mem run).Ghost
-    to-returned = ((tt, tt, tt, (r, tt), (v ∷ [], tt)), tt)
+    abbrev to_returned : (ReturnedOf 𝓛 mem run).Ghost
+    to_returned = ((tt, tt, tt, (r, tt), (v ∷ [], tt)), tt)
 
-    goes-returned : ent 𝓤 (emp 𝓤) ((ReturnedOf 𝓛 mem run).pre to-returned)
-    goes-returned = qed 𝓛 [] ∵ nothing ! $ owned ! B.the_row (Is B.the_row) (LL.makes B.the_type B'.the_plain 𝓛) r _ is-r $ fjoin ! $ nothing ! $ join ! $ frame ! $ done !
+    goes_returned : ent 𝓤 (emp 𝓤) ((ReturnedOf 𝓛 mem run).pre to_returned)
+    goes_returned = qed 𝓛 [] ∵ nothing ! $ owned ! B.the_row (Is B.the_row) (LL.makes B.the_type B'.the_plain 𝓛) r _ is-r $ fjoin ! $ nothing ! $ join ! $ frame ! $ done !
 
   -- ---- what `put_records` is passed: the answers a, at the machine value v
   module _ (a : Answered) (v : Val) (is-a : Is S.the_row a (v ∷ [])) where
-    abbrev to-put : (Put 𝓛 mem run).Ghost
-    to-put = (((κ₆, tt), (q₆, tt), tt, (an, (a, tt)), (shr_slice_vals an, (v ∷ [], tt))), tt)
+    abbrev to_put : (Put 𝓛 mem run).Ghost
+    to_put = (((κ₆, tt), (q₆, tt), tt, (an, (a, tt)), (shr_slice_vals an, (v ∷ [], tt))), tt)
 
-    goes-put : ent 𝓤 (mean 𝓛 (‵ (flft κ₆ q₆) ⊛ ‵ own-an)) ((Put 𝓛 mem run).pre to-put)
-    goes-put =
-        qed 𝓛 (‵ (flft κ₆ q₆) ∷ ‵ own-an ∷ []) ∵ nothing ! $ owned ! S.the_row (Is S.the_row) (LL.makes S.the_type S'.the_plain 𝓛) a _ is-a $ fjoin ! $ move ! (2 ∷ 0 ∷ []) $ fjoin ! $
+    goes_put : ent 𝓤 (mean 𝓛 (‵ (flft κ₆ q₆) ⊛ ‵ own_an)) ((Put 𝓛 mem run).pre to_put)
+    goes_put =
+        qed 𝓛 (‵ (flft κ₆ q₆) ∷ ‵ own_an ∷ []) ∵ nothing ! $ owned ! S.the_row (Is S.the_row) (LL.makes S.the_type S'.the_plain 𝓛) a _ is-a $ fjoin ! $ move ! (2 ∷ 0 ∷ []) $ fjoin ! $
         nothing ! $ move ! (2 ∷ 0 ∷ []) $ join ! $ join ! $ frame ! $ done !
 
   -- ---- the exit: what is said of each `&mut`'s last list, the shared slices, the state, and the result
   exits : (x : BatchReturned) (y : Val) (r : BatchAnswered) (a : Answered) (ws : Lasts core.ended κs₆ args₆) (zs : Lasts put.ended (κ₆, tt) (an, (a, tt)))
-      → Said r ws.1.1.1.1.1.0 ws.1.1.1.1.1.1.0 → a ≡ r.answers → zs.0 ≡ putRecords an.now a (min a.filled room) → x ≡ r.returned
+      → Said r ws.1.1.1.1.1.0 ws.1.1.1.1.1.1.0 → a ≡ r.answers → zs.0 ≡ put_records an.now a (min a.filled room) → x ≡ r.returned
       → ent 𝓤 (⋆ 𝓛 (‵ ((X.the_row).own_val x (y ∷ [])) ∷ (‵ (flft κ₆ q₆) ⊛ ‵ ftrue) ∷ ‵ (lasts put.ended (κ₆, tt) (an, (a, tt)) zs) ∷ Shared ∷ Tokens₆ ∷ ‵ (lasts core.ended κs₆ args₆ ws) ∷ [])) (Post y)
   exits x y r a ws zs e e₁ e₂ e₃ =
       qed 𝓛 (‵ ((X.the_row).own_val x (y ∷ [])) ∷ (‵ (flft κ₆ q₆) ⊛ ‵ ftrue) ∷ ‵ (lasts put.ended (κ₆, tt) (an, (a, tt)) zs) ∷ Shared ∷ Tokens₆ ∷ ‵ (lasts core.ended κs₆ args₆ ws) ∷ []) ∵
@@ -253,7 +253,7 @@ module _ {M : Type 1} {𝓤 : Ura M} (𝓛 : Logic 𝓤) (mem : Memory → SProp
       says ! (
         ap (λ (z : BatchReturned). z.verdict) e₃ ∙ e.0,
         (ap (λ (z : BatchReturned). z.state) e₃ ∙ e.2.0, e.2.1, e.2.2),
-        e₂ ∙ ap (λ (z : Answered). putRecords an.now z (min z.filled room)) e₁ ∙ e.1 an.now refl,
+        e₂ ∙ ap (λ (z : Answered). put_records an.now z (min z.filled room)) e₁ ∙ e.1 an.now refl,
       ) $
       move ! (6 ∷ []) $ split ! $ move ! (1 ∷ []) $ split ! $ move ! (1 ∷ []) $ split ! $ move ! (1 ∷ []) $ split ! $ move ! (1 ∷ []) $ split ! $ move ! (1 ∷ []) $ split ! $
       move ! (0 ∷ 11 ∷ []) $ join ! $ move ! (2 ∷ 0 ∷ []) $ join ! $ move ! (2 ∷ 0 ∷ []) $ join ! $ move ! (2 ∷ 0 ∷ []) $ join ! $ move ! (2 ∷ 0 ∷ []) $ join ! $ move ! (2 ∷ 0 ∷ []) $ join ! $ frame ! $
@@ -278,8 +278,8 @@ module _ {M : Type 1} {𝓤 : Ura M} (𝓛 : Logic 𝓤) (mem : Memory → SProp
         assigns ! (agg ! (and_then ! (load ! (from ! (stop !)) (look ! 12 refl)) (and_then ! (load ! (from ! (fld ! refl (stop !))) (look_in ! 22 (sub ! 1 refl (whole !)))) (no_more !)))) (from ! (stop !)) (init ! 10 refl (tt, (tt, (record { fits = g₅.0 }, tt)))) $
         assigns ! (of_opd ! (load ! (from ! (fld ! refl (stop !))) (look_in ! 20 (sub ! 1 refl (whole !))))) (from ! (stop !)) (init ! 8 refl (tt, record { fits = g₆.0 })) $
         -- the core
-        move ! (38 ∷ []) $ use1 𝓛 (raw ((Core 𝓛 mem run).pre to-core) ⊛ Kept) (apart g₆) $ split ! $
-        calls_at ! fm (Core 𝓛 mem run) known-core to-core (and_then ! (load ! (from ! (stop !)) (look ! 36 refl)) (and_then ! (load ! (from ! (stop !)) (look ! 34 refl)) (and_then ! (load ! (from ! (stop !)) (look ! 32 refl)) (and_then ! (load ! (from ! (stop !)) (look ! 30 refl)) (and_then ! (load ! (from ! (stop !)) (look ! 28 refl)) (and_then ! (load ! (from ! (stop !)) (look ! 16 refl)) (and_then ! (load ! (from ! (stop !)) (look ! 12 refl)) (and_then ! (load ! (from ! (stop !)) (look ! 10 refl)) (no_more !))))))))) (λ v.
+        move ! (38 ∷ []) $ use1 𝓛 (raw ((Core 𝓛 mem run).pre to_core) ⊛ Kept) (apart g₆) $ split ! $
+        calls_at ! fm (Core 𝓛 mem run) known-core to_core (and_then ! (load ! (from ! (stop !)) (look ! 36 refl)) (and_then ! (load ! (from ! (stop !)) (look ! 34 refl)) (and_then ! (load ! (from ! (stop !)) (look ! 32 refl)) (and_then ! (load ! (from ! (stop !)) (look ! 30 refl)) (and_then ! (load ! (from ! (stop !)) (look ! 28 refl)) (and_then ! (load ! (from ! (stop !)) (look ! 16 refl)) (and_then ! (load ! (from ! (stop !)) (look ! 12 refl)) (and_then ! (load ! (from ! (stop !)) (look ! 10 refl)) (no_more !))))))))) (λ v.
         use1 𝓛 (later (some (λ (r : BatchAnswered). (Tokens₆ ⊛ ‵ ((B.the_row).own_val r (v ∷ []))) ⊛ raw (ensured 𝓛 core.ended (core.clauses 𝓛 mem run) κs₆ args₆ tt r)))) (id⊢ 𝓤 _) $ await ! tt $ pick ! (λ r.
         split ! $ move ! (1 ∷ []) $ use1 𝓛 (some (λ (ws : Lasts core.ended κs₆ args₆). ‵ (lasts core.ended κs₆ args₆ ws) ⊛ raw (fact 𝓤 (Said r ws.1.1.1.1.1.0 ws.1.1.1.1.1.1.0)))) (id⊢ 𝓤 _) $ pick ! (λ ws.
         split ! $ move ! (1 ∷ []) $ heard ! (Said r ws.1.1.1.1.1.0 ws.1.1.1.1.1.1.0) (λ e.
@@ -289,26 +289,26 @@ module _ {M : Type 1} {𝓤 : Ura M} (𝓛 : Logic 𝓤) (mem : Memory → SProp
         assigns ! (addr ! (from ! (fld ! refl (hop ! (look_in ! 23 (sub ! 0 refl (whole !))) (stop !))))) (from ! (stop !)) (init ! 7 refl (tt, tt)) $
         assigns ! (agg ! (and_then ! (load ! (from ! (stop !)) (look ! 7 refl)) (and_then ! (load ! (from ! (fld ! refl (stop !))) (look_in ! 23 (sub ! 1 refl (whole !)))) (no_more !)))) (from ! (stop !)) (init ! 5 refl (tt, (tt, (record { fits = g₆.0 }, tt)))) $
         -- `answers_of`
-        use0 𝓛 (raw ((AnswersOf 𝓛 mem run).pre (to-answers r v is-r))) (goes-answers r v is-r) $
-        calls_at ! fm (AnswersOf 𝓛 mem run) known-answers (to-answers r v is-r) (and_then ! (load ! (from ! (stop !)) (look ! 22 refl)) (no_more !)) (λ m.
+        use0 𝓛 (raw ((AnswersOf 𝓛 mem run).pre (to_answers r v is-r))) (goes_answers r v is-r) $
+        calls_at ! fm (AnswersOf 𝓛 mem run) known-answers (to_answers r v is-r) (and_then ! (load ! (from ! (stop !)) (look ! 22 refl)) (no_more !)) (λ m.
         use1 𝓛 (later (some (λ (a : Answered). (‵ ftrue ⊛ ‵ ((S.the_row).own_val a (m ∷ []))) ⊛ raw (ensured 𝓛 Answers-of.ended (Answers-of.clauses 𝓛 mem run) tt (r, tt) tt a)))) (id⊢ 𝓤 _) $ await ! tt $ pick ! (λ a.
-        split ! $ move ! (1 ∷ []) $ use1 𝓛 (raw (fact 𝓤 (a ≡ r.answers))) (answers-said 𝓛 mem run r a) $ heard ! (a ≡ r.answers) (λ e₁. split ! $ drop ! $
+        split ! $ move ! (1 ∷ []) $ use1 𝓛 (raw (fact 𝓤 (a ≡ r.answers))) (answers_said 𝓛 mem run r a) $ heard ! (a ≡ r.answers) (λ e₁. split ! $ drop ! $
         facts ! S.the_row (Is S.the_row) (shows 𝓛 S.the_row) a (m ∷ []) (λ is-a.
         land ! (from ! (stop !)) (init ! 3 refl ((LL.lawful S.the_type S'.the_laws 𝓛).typed a _ is-a).0) $
         -- `put_records`
-        move ! (2 ∷ []) $ split ! $ use1 𝓛 (raw ((Put 𝓛 mem run).pre (to-put a m is-a))) (goes-put a m is-a) $
-        calls_at ! fm (Put 𝓛 mem run) known-put (to-put a m is-a) (and_then ! (load ! (from ! (stop !)) (look ! 6 refl)) (and_then ! (load ! (from ! (stop !)) (look ! 4 refl)) (no_more !))) (λ w.
+        move ! (2 ∷ []) $ split ! $ use1 𝓛 (raw ((Put 𝓛 mem run).pre (to_put a m is-a))) (goes_put a m is-a) $
+        calls_at ! fm (Put 𝓛 mem run) known-put (to_put a m is-a) (and_then ! (load ! (from ! (stop !)) (look ! 6 refl)) (and_then ! (load ! (from ! (stop !)) (look ! 4 refl)) (no_more !))) (λ w.
         use1 𝓛 (later (some (λ (u : Unit {0}). ((‵ (flft κ₆ q₆) ⊛ ‵ ftrue) ⊛ ‵ (unit.own_val u (w ∷ []))) ⊛ raw (ensured 𝓛 put.ended (put.clauses 𝓛 mem run) (κ₆, tt) (an, (a, tt)) tt u)))) (id⊢ 𝓤 _) $ await ! tt $ pick ! (λ u.
-        split ! $ move ! (1 ∷ []) $ use1 𝓛 (some (λ (zs : Lasts put.ended (κ₆, tt) (an, (a, tt))). ‵ (lasts put.ended (κ₆, tt) (an, (a, tt)) zs) ⊛ raw (fact 𝓤 (zs.0 ≡ putRecords an.now a (min a.filled room))))) (id⊢ 𝓤 _) $ pick ! (λ zs.
-        split ! $ move ! (1 ∷ []) $ heard ! (zs.0 ≡ putRecords an.now a (min a.filled room)) (λ e₂.
+        split ! $ move ! (1 ∷ []) $ use1 𝓛 (some (λ (zs : Lasts put.ended (κ₆, tt) (an, (a, tt))). ‵ (lasts put.ended (κ₆, tt) (an, (a, tt)) zs) ⊛ raw (fact 𝓤 (zs.0 ≡ put_records an.now a (min a.filled room))))) (id⊢ 𝓤 _) $ pick ! (λ zs.
+        split ! $ move ! (1 ∷ []) $ heard ! (zs.0 ≡ put_records an.now a (min a.filled room)) (λ e₂.
         move ! (1 ∷ []) $ split ! $ move ! (1 ∷ []) $ facts ! unit (Is unit) (shows 𝓛 unit) u (w ∷ []) (λ is-u.
         -- [answers' token; its last list; the shared slices; the core's tokens; its last lists; _18; …]
         land ! (from ! (stop !)) (init ! 11 refl ((Nothing-Lawful 𝓛).typed u _ is-u).0) $
         -- `returned_of`
-        use0 𝓛 (raw ((ReturnedOf 𝓛 mem run).pre (to-returned r v is-r))) (goes-returned r v is-r) $
-        calls_at ! fm (ReturnedOf 𝓛 mem run) known-returned (to-returned r v is-r) (and_then ! (load ! (from ! (stop !)) (look ! 24 refl)) (no_more !)) (λ y.
+        use0 𝓛 (raw ((ReturnedOf 𝓛 mem run).pre (to_returned r v is-r))) (goes_returned r v is-r) $
+        calls_at ! fm (ReturnedOf 𝓛 mem run) known-returned (to_returned r v is-r) (and_then ! (load ! (from ! (stop !)) (look ! 24 refl)) (no_more !)) (λ y.
         use1 𝓛 (later (some (λ (x : BatchReturned). (‵ ftrue ⊛ ‵ ((X.the_row).own_val x (y ∷ []))) ⊛ raw (ensured 𝓛 returned-of.ended (returned-of.clauses 𝓛 mem run) tt (r, tt) tt x)))) (id⊢ 𝓤 _) $ await ! tt $ pick ! (λ x.
-        split ! $ move ! (1 ∷ []) $ use1 𝓛 (raw (fact 𝓤 (x ≡ r.returned))) (returned-said 𝓛 mem run r x) $ heard ! (x ≡ r.returned) (λ e₃. split ! $ drop ! $
+        split ! $ move ! (1 ∷ []) $ use1 𝓛 (raw (fact 𝓤 (x ≡ r.returned))) (returned_said 𝓛 mem run r x) $ heard ! (x ≡ r.returned) (λ e₃. split ! $ drop ! $
         peeks ! X.the_row (Is X.the_row) (shows 𝓛 X.the_row) x (y ∷ []) (λ is_x.
         -- [the result; answers' token; its last list; the shared slices; the core's tokens; its last lists; _18; …]
         land ! (from ! (stop !)) (init ! 42 refl ((LL.lawful X.the_type X'.the_laws 𝓛).typed x _ is_x).0) $ returns ! (look ! 42 refl) $
@@ -321,8 +321,8 @@ module _ {M : Type 1} {𝓤 : Ura M} (𝓛 : Logic 𝓤) (mem : Memory → SProp
     (known-put : Triple 𝓤 (𝓣.C #answers·put-records) (Put 𝓛 mem run)) (known-returned : Triple 𝓤 (𝓣.C #batch·returned-of) (ReturnedOf 𝓛 mem run)) where
   open 𝓛 use {H}
 
-  batch-walks : Walks 𝓛 fn.ended stayed (WpFn 𝓤 H 𝓣.C 𝓣.Λ code.function) (fn.clauses 𝓛 mem run)
-  batch-walks = walked 𝓛 fn.ended stayed (fn.clauses 𝓛 mem run) (WpFn 𝓤 H 𝓣.C 𝓣.Λ code.function)
+  batch_walks : Walks 𝓛 fn.ended stayed (WpFn 𝓤 H 𝓣.C 𝓣.Λ code.function) (fn.clauses 𝓛 mem run)
+  batch_walks = walked 𝓛 fn.ended stayed (fn.clauses 𝓛 mem run) (WpFn 𝓤 H 𝓣.C 𝓣.Λ code.function)
       (λ κs. (LL.vals T.the_type T'.the_laws, (shr_slice_vals, (shr_slice_vals, (shr_slice_vals, (shr_slice_vals, (shr_slice_vals, (shr_slice_vals, (shr_slice_vals, tt)))))))))
       (λ κs. (
         LL.tells T.the_type T'.the_laws,
@@ -347,8 +347,8 @@ module _ {M : Type 1} {𝓤 : Ura M} (𝓛 : Logic 𝓤) (mem : Memory → SProp
       𝓣.C 𝓣.Λ (fm_of 𝓤 H 𝓛.laws 𝓣) known-core known-answers known-put known-returned
       are.1.0.0.1 are.1.1.0.0.1 are.1.1.1.0.0.1 are.1.1.1.1.0.0.1 are.1.1.1.1.1.0.0.1 are.1.1.1.1.1.1.0.0.1 are.1.1.1.1.1.1.1.0.0.1))
 
-  batch-meets : Meets 𝓛 fn.signature (WpFn 𝓤 H 𝓣.C 𝓣.Λ code.function) (fn.spec 𝓛 mem run)
-  batch-meets =
+  batch_meets : Meets 𝓛 fn.signature (WpFn 𝓤 H 𝓣.C 𝓣.Λ code.function) (fn.spec 𝓛 mem run)
+  batch_meets =
       walk_Meets 𝓛 fn.ended stayed (
         Goes-none 𝓛 7 (λ _. T.the_row) yes (λ κs x f. refl),
         (
@@ -365,14 +365,14 @@ module _ {M : Type 1} {𝓤 : Ura M} (𝓛 : Logic 𝓤) (mem : Memory → SProp
           ),
         ),
       ) (fn.clauses 𝓛 mem run)
-      (WpFn 𝓤 H 𝓣.C 𝓣.Λ code.function) (WpFn-mono 𝓤 H 𝓛.laws 𝓣 code.function) batch-walks
+      (WpFn 𝓤 H 𝓣.C 𝓣.Λ code.function) (WpFn-mono 𝓤 H 𝓛.laws 𝓣 code.function) batch_walks
 
-pub batch-spec : {M : Type 1} → stated.statement M
+pub batch_spec : {M : Type 1} → stated.statement M
 unfolding code.routine tables_of
-batch-spec 𝓤 𝓛 𝓜 𝓡 =
+batch_spec 𝓤 𝓛 𝓜 𝓡 =
     entered 𝓤 𝓛.H (triple_of 𝓛 fn.signature (fn.spec 𝓛 𝓜.mem 𝓡.run))
     (tables 𝓤 𝓛.H 𝓜 𝓡 code.env).C (tables 𝓤 𝓛.H 𝓜 𝓡 code.env).Λ #batch·batch code.function (code.unfolded 𝓤 𝓛.H 𝓜 𝓡)
-    (batch-meets 𝓛 𝓜.mem 𝓡.run (tables_of 𝓤 𝓛.H 𝓜 (tables 𝓤 𝓛.H 𝓜 𝓡 code.env))
+    (batch_meets 𝓛 𝓜.mem 𝓡.run (tables_of 𝓤 𝓛.H 𝓜 (tables 𝓤 𝓛.H 𝓜 𝓡 code.env))
     (cited 𝓤 𝓛.H (Core 𝓛 𝓜.mem 𝓡.run) 𝓜 𝓡 code.env #batch·answered core-def.routine code.calls-batch::answered (core-thm.met 𝓤 𝓛 𝓜 𝓡))
     (cited 𝓤 𝓛.H (AnswersOf 𝓛 𝓜.mem 𝓡.run) 𝓜 𝓡 code.env #batch·answers-of answers-of-def.routine code.calls-batch::answers-of (answers-of-thm.met 𝓤 𝓛 𝓜 𝓡))
     (cited 𝓤 𝓛.H (Put 𝓛 𝓜.mem 𝓡.run) 𝓜 𝓡 code.env #answers·put-records put-def.routine code.calls-answers::put-records (put-thm.met 𝓤 𝓛 𝓜 𝓡))

@@ -1,7 +1,7 @@
 -- `batch::batch_numbers` meets its contract: the verdict says which of the two cases of the definition it is.
 -- Assumes nothing.
 use borrow.Author.Rules.{rules}
-use Rattle.batches.specs.Batch.{BatchArgs, lends, onState}
+use Rattle.batches.specs.Batch.{BatchArgs, lends, on_state}
 use Rattle.batches.proofs.Whole.{fits, refused, accepted}
 use Rattle.batch.proofs.batch_numbers.Statement.{statement}
 use Rattle.batch.proofs.batch_numbers.Tie as tie
@@ -29,13 +29,13 @@ run-requires : tie.Need-run-requires
 run-requires c κs =
     let v = c.before.before.before.before.before.before in
     let a = (start v).args in
-    fits onState a.s (lent v) a.numbers.now a.sizes.now v.before.lesser.ensures v.batch-verdict.ensures c.before.before.before.before.enum-told2.given.1
+    fits on_state a.s (lent v) a.numbers.now a.sizes.now v.before.lesser.ensures v.batch-verdict.ensures c.before.before.before.before.enum-told2.given.1
 
 returns : tie.Need-returns
 returns c =
     let v = c.before.before in
     let a = (start v).args in
-    refused onState a.s (lent v) a.numbers.now a.sizes.now v.before.lesser.ensures v.batch-verdict.ensures c.enum_told.given.1
+    refused on_state a.s (lent v) a.numbers.now a.sizes.now v.before.lesser.ensures v.batch-verdict.ensures c.enum_told.given.1
 
 same_length : tie.Need-same-length
 same_length c = search rules
@@ -54,11 +54,11 @@ returns-2 c =
     let k = c.before.before.before.before.before.before.before.before in
     let v = k.before.before.before.before.before.before.before in
     let a = (start v).args in
-    accepted onState a.s (lent v) a.numbers.now a.sizes.now v.before.lesser.ensures v.batch-verdict.ensures
+    accepted on_state a.s (lent v) a.numbers.now a.sizes.now v.before.lesser.ensures v.batch-verdict.ensures
     k.before.before.before.before.before.enum-told2.given.1 k.run.ensures
 
-pub batch-numbers-spec : {M : Type 1} → statement M
-batch-numbers-spec =
+pub batch_numbers_spec : {M : Type 1} → statement M
+batch_numbers_spec =
     tie.close
     (tie.spec
     lesser-requires

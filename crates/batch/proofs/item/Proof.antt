@@ -4,8 +4,8 @@ use mathlib.Core.Path.{◌≡◌}
 use Prim.Native.Nat.{◌+◌, ◌*◌, ◌-◌}
 use native.Mathlib.Omega.{arith}
 use borrow.Author.Rules.{rules}
-use Rattle.batches.specs.Batch.{onState}
-use Rattle.batches.proofs.Items.{item-done}
+use Rattle.batches.specs.Batch.{on_state}
+use Rattle.batches.proofs.Items.{item_done}
 use Rattle.batch.proofs.Items.{within, called}
 use Rattle.batch.proofs.item.Statement.{statement}
 use Rattle.batch.proofs.item.Tie as tie
@@ -64,11 +64,11 @@ returns c =
     let start = k.before.before.before.before.before.before.before.before.before in
     let a = start.args in
     let n : 32 * a.i + 32 - 32 * a.i ≡ 32 = omega arith in
-    item-done onState a.s a.packet.now a.symbols.now a.image.now a.replies.now a.i (within a.s _) a.numbers.now a.sizes.now start.requires.0 n
-    (called a.s (record { packet = a.packet.now; symbols = a.symbols.now; image = a.image.now; reply = _ }) k.command.ensures c.before.before.answer-number.ensures c.before.answer-length.ensures)
+    item_done on_state a.s a.packet.now a.symbols.now a.image.now a.replies.now a.i (within a.s _) a.numbers.now a.sizes.now start.requires.0 n
+    (called a.s (record { packet = a.packet.now; symbols = a.symbols.now; image = a.image.now; reply = _ }) k.command.ensures c.before.before.answer_number_lem.ensures c.before.answer-length.ensures)
 
-pub item-spec : {M : Type 1} → statement M
-item-spec =
+pub item_spec : {M : Type 1} → statement M
+item_spec =
     tie.close
     (tie.spec
     mul-from

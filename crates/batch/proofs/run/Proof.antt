@@ -5,7 +5,7 @@ use Prim.Native.Nat.{◌-◌, min}
 use native.Mathlib.Omega.{arith}
 use lib.ListN.{length}
 use borrow.Author.Rules.{rules}
-use Rattle.batches.specs.Batch.{BatchArgs, lends, onState}
+use Rattle.batches.specs.Batch.{BatchArgs, lends, on_state}
 use Rattle.batches.specs.InOrder.{Fits}
 use Rattle.batches.proofs.Turns.{fits, Upto, starts, turn, all}
 use Rattle.batch.proofs.run.Statement.{statement}
@@ -13,7 +13,7 @@ use Rattle.batch.proofs.run.Tie as tie
 
 abbrev invariant-loop : tie.invariant-loop
 invariant-loop bytes starts lengths symbols image₀ replies₀ numbers₀ sizes₀ state₀ i₀ image replies numbers sizes state i =
-    Upto onState (lends bytes starts lengths symbols image₀ replies₀) numbers₀ sizes₀ state₀ i state image replies numbers sizes
+    Upto on_state (lends bytes starts lengths symbols image₀ replies₀) numbers₀ sizes₀ state₀ i state image replies numbers sizes
 
 abbrev decreases-loop : tie.decreases-loop
 decreases-loop bytes starts lengths symbols image₀ replies₀ numbers₀ sizes₀ state₀ i₀ image replies numbers sizes state i =
@@ -36,7 +36,7 @@ test c = c.before.before.before.before.before.before.before.before.before.before
 loop-holds : tie.Need-loop-init invariant-loop decreases-loop
 loop-holds c =
     let start = c.before.before.before.before.before.before.before.before in
-    starts onState (lent start) start.args.numbers.now start.args.sizes.now start.args.s
+    starts on_state (lent start) start.args.numbers.now start.args.sizes.now start.args.s
 
 mul-bytes-from : tie.Need-overflow-mul-bytes-from invariant-loop decreases-loop
 mul-bytes-from c = search rules
@@ -58,7 +58,7 @@ item-requires c κs =
     let t = c.before.before.before.before.before.before.before in
     let u = t.before.loop.invariant in
     let f = fit (start t) in
-    omega (arith, t.loop-test.true, u.replies-long, u.numbers-long, u.sizes-long, f.room, f.bytes)
+    omega (arith, t.loop-test.true, u.replies_long, u.numbers_long, u.sizes_long, f.room, f.bytes)
 
 add-i : tie.Need-overflow-add-i invariant-loop decreases-loop
 add-i c = let t = test c in omega (arith, t.loop-test.taken, (fit (start t)).few)
@@ -72,20 +72,20 @@ loop-again c =
     let packet = c.before.before.before.before.before.before.before.before.before.before.before.before.before.bytes-from.ensures in
     let t = test c in
     let a = (start t).args in
-    turn onState (lent (start t)) a.numbers.now a.sizes.now a.s t.before.loop.inv (fit (start t)) t.loop-test.taken packet
+    turn on_state (lent (start t)) a.numbers.now a.sizes.now a.s t.before.loop.inv (fit (start t)) t.loop-test.taken packet
     k.ensures k.auto.1.1.1.0 k.auto.1.1.1.1.0 k.auto.1.1.1.1.1.0 k.auto.1.1.1.1.1.1.0
 
 same_length : tie.Need-same-length invariant-loop decreases-loop
-same_length c = c.before.loop.invariant.image-long
+same_length c = c.before.loop.invariant.image_long
 
 same-length-2 : tie.Need-same-length-2 invariant-loop decreases-loop
-same-length-2 c = c.before.loop.invariant.replies-long
+same-length-2 c = c.before.loop.invariant.replies_long
 
 same-length-3 : tie.Need-same-length-3 invariant-loop decreases-loop
-same-length-3 c = c.before.loop.invariant.numbers-long
+same-length-3 c = c.before.loop.invariant.numbers_long
 
 same-length-4 : tie.Need-same-length-4 invariant-loop decreases-loop
-same-length-4 c = c.before.loop.invariant.sizes-long
+same-length-4 c = c.before.loop.invariant.sizes_long
 
 returns : tie.Need-returns invariant-loop decreases-loop
 returns c =
@@ -93,7 +93,7 @@ returns c =
     let start = c.before.before.before.before.before.before.before.before.before.before in
     let a = start.args in
     let e : l.i ≡ length a.starts.now = omega (arith, l.invariant.inside, c.loop-test.false) in
-    all onState (lent start) a.numbers.now a.sizes.now a.s l.invariant e
+    all on_state (lent start) a.numbers.now a.sizes.now a.s l.invariant e
 
 pub run_spec : {M : Type 1} → statement M
 run_spec =

@@ -7,5 +7,5 @@ use Rattle.batches.proofs.batch_in_order.Tie as tie
 returns : tie.Need-returns
 returns c = promises
 
-pub batch-in-order-spec : {M : Type 1} → statement M
-batch-in-order-spec = tie.close (tie.spec returns)
+pub batch_in_order_spec : {M : Type 1} → statement M
+batch_in_order_spec = tie.close (tie.spec returns)

@@ -17,5 +17,5 @@ returns-2 c = rw (le-ltb 64 c.before.before.args.starts c.before.if1.false, c.if
 returns-3 : tie.Need-returns-3
 returns-3 c = rw (le-ltb 64 c.before.before.args.starts c.before.if1.false, c.if2.false)
 
-pub batch-verdict-spec : {M : Type 1} → statement M
-batch-verdict-spec = tie.close (tie.spec returns mul-if2 returns-2 returns-3)
+pub batch_verdict_spec : {M : Type 1} → statement M
+batch_verdict_spec = tie.close (tie.spec returns mul-if2 returns-2 returns-3)

@@ -4,7 +4,7 @@ use mathlib.Core.Path.{◌≡◌, sym}
 use Prim.Native.Nat.{◌+◌, ◌-◌}
 use native.Mathlib.Omega.{arith}
 use borrow.Author.Rules.{rules}
-use Rattle.batches.proofs.InPlain.{packet-inside, packet-outside}
+use Rattle.batches.proofs.InPlain.{packet_inside, packet_outside}
 use Rattle.batches.proofs.bytes_from.Statement.{statement}
 use Rattle.batches.proofs.bytes_from.Tie as tie
 
@@ -21,7 +21,7 @@ part-result-end : tie.Need-slice-bounds-result-end
 part-result-end c = search rules
 
 returns : tie.Need-returns
-returns c = let a = c.before.before.args in sym (packet-outside a.bytes.now a.start a.n c.before.if1.true)
+returns c = let a = c.before.before.args in sym (packet_outside a.bytes.now a.start a.n c.before.if1.true)
 
 sub-result-2 : tie.Need-overflow-sub-result-2
 sub-result-2 c = search rules
@@ -36,10 +36,10 @@ returns-2 : tie.Need-returns-2
 returns-2 c =
     let a = c.before.before.args in
     let n : a.start + a.n - a.start ≡ a.n = omega arith in
-    rw (n, packet-inside a.bytes.now a.start a.n c.before.if1.false)
+    rw (n, packet_inside a.bytes.now a.start a.n c.before.if1.false)
 
-pub bytes-from-spec : {M : Type 1} → statement M
-bytes-from-spec =
+pub bytes_from_spec : {M : Type 1} → statement M
+bytes_from_spec =
     tie.close
     (tie.spec
     add-end

@@ -7,5 +7,5 @@ use Rattle.batches.proofs.item_is_its_bytes.Tie as tie
 returns : tie.Need-returns
 returns c = an_item
 
-pub item-is-its-bytes-spec : {M : Type 1} → statement M
-item-is-its-bytes-spec = tie.close (tie.spec returns)
+pub item_is_its_bytes_spec : {M : Type 1} → statement M
+item_is_its_bytes_spec = tie.close (tie.spec returns)

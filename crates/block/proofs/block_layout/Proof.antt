@@ -7,5 +7,5 @@ use Rattle.block.proofs.block_layout.Tie as tie
 returns : tie.Need-returns
 returns c s = layout s
 
-pub block-layout-spec : {M : Type 1} → statement M
-block-layout-spec = tie.close (tie.spec returns)
+pub block_layout_spec : {M : Type 1} → statement M
+block_layout_spec = tie.close (tie.spec returns)

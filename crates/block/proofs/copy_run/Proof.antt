@@ -6,7 +6,7 @@ use native.Mathlib.Omega.{arith}
 use lib.ListN.{length, take}
 use lib.Seq.{take_all}
 use Rattle.lists.specs.Splice.{splice}
-use Rattle.lists.proofs.Runs.{splice-none, copy-turn}
+use Rattle.lists.proofs.Runs.{splice_none, copy_turn}
 use borrow.Author.Rules.{rules}
 use Rattle.block.proofs.copy_run.Statement.{statement}
 use Rattle.block.proofs.copy_run.Tie as tie
@@ -18,7 +18,7 @@ abbrev decreases-loop : tie.decreases-loop
 decreases-loop b₀ at v i₀ b i = length v - i
 
 loop-holds : tie.Need-loop-init invariant-loop decreases-loop
-loop-holds c = (search rules, sym (splice-none _ _), search rules)
+loop-holds c = (search rules, sym (splice_none _ _), search rules)
 
 mul-b : tie.Need-overflow-mul-b invariant-loop decreases-loop
 mul-b c = search rules
@@ -45,7 +45,7 @@ loop-again : tie.Need-loop-preserved invariant-loop decreases-loop
 loop-again c =
     let l = c.before in
     let start = l.before.before in
-    (search rules, copy-turn start.args.b.now l.before.loop.b start.args.v.now start.args.at l.before.loop.i (omega arith) (omega arith) l.before.loop.invariant.1, search rules)
+    (search rules, copy_turn start.args.b.now l.before.loop.b start.args.v.now start.args.at l.before.loop.i (omega arith) (omega arith) l.before.loop.invariant.1, search rules)
 
 same_length : tie.Need-same-length invariant-loop decreases-loop
 same_length c = search rules
@@ -57,8 +57,8 @@ returns c =
     let e = take_all l.loop.i start.args.v.now (omega arith) in
     rw e at l.loop.invariant.1
 
-pub copy-run-spec : {M : Type 1} → statement M
-copy-run-spec =
+pub copy_run_spec : {M : Type 1} → statement M
+copy_run_spec =
     tie.close
     (tie.spec
     invariant-loop

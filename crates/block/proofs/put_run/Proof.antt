@@ -24,6 +24,6 @@ same_length c = search rules
 returns-3 : tie.Need-returns-3
 returns-3 c = (λ h. search rules, λ n. absurd (n (omega arith)))
 
-pub put-run-spec : {M : Type 1} → statement M
-put-run-spec =
+pub put_run_spec : {M : Type 1} → statement M
+put_run_spec =
     tie.close (tie.spec returns sub-if2 returns-2 copy-run-requires same_length returns-3)

@@ -37,8 +37,8 @@ same_length c = search rules
 returns : tie.Need-returns
 returns c = rw (← c.before.before.before.before.word_at.ensures) c.before.before.set_word.ensures
 
-pub raise-spec : {M : Type 1} → statement M
-raise-spec =
+pub raise_spec : {M : Type 1} → statement M
+raise_spec =
     tie.close
     (tie.spec
     word-at-requires

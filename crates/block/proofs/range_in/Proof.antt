@@ -28,6 +28,6 @@ word-at-requires c κs = search rules
 returns-2 : tie.Need-returns-2
 returns-2 c = rw c.word_at.ensures
 
-pub range-in-spec : {M : Type 1} → statement M
-range-in-spec =
+pub range_in_spec : {M : Type 1} → statement M
+range_in_spec =
     tie.close (tie.spec returns mul-t5 shared-slice-read-t9 add-word-at word-at-requires returns-2)

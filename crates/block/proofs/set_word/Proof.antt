@@ -22,5 +22,5 @@ returns c = search rules
 returns-2 : tie.Need-returns-2
 returns-2 c = sym (set_out _ _ _ (omega arith))
 
-pub set-word-spec : {M : Type 1} → statement M
-set-word-spec = tie.close (tie.spec mul-b slice-write-b same_length returns returns-2)
+pub set_word_spec : {M : Type 1} → statement M
+set_word_spec = tie.close (tie.spec mul-b slice-write-b same_length returns returns-2)

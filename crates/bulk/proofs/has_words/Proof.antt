@@ -13,5 +13,5 @@ returns c = (λ h. absurd (true≢false (sym h)), λ h. omega arith)
 returns-2 : tie.Need-returns-2
 returns-2 c = (λ h. omega (arith, leb-true, ltb-true), λ h. omega (arith, leb-false, ltb-false))
 
-pub has-words-spec : {M : Type 1} → statement M
-has-words-spec = tie.close (tie.spec returns returns-2)
+pub has_words_spec : {M : Type 1} → statement M
+has_words_spec = tie.close (tie.spec returns returns-2)

@@ -3,7 +3,7 @@
 use Prim.Native.Nat.{◌+◌, ◌*◌, ◌-◌}
 use native.Mathlib.Omega.{arith}
 use Rattle.wire.specs.Bytes.{word_bytes}
-use Rattle.wire.proofs.Numbers.{two-halves}
+use Rattle.wire.proofs.Numbers.{two_halves}
 use borrow.Author.Rules.{rules}
 use Rattle.bulk.proofs.head_words.Statement.{statement}
 use Rattle.bulk.proofs.head_words.Tie as tie
@@ -52,12 +52,12 @@ unfolding word_bytes
 returns c =
     let f = c.before.before.before.before.args.f in
     rw (
-      two-halves 788 (49152 + f.header.count) (omega arith),
-      two-halves (28 + 4 * f.words - 7) (4096 * f.header.unit + f.header.transaction) (omega arith),
+      two_halves 788 (49152 + f.header.count) (omega arith),
+      two_halves (28 + 4 * f.words - 7) (4096 * f.header.unit + f.header.transaction) (omega arith),
     )
 
-pub head-words-spec : {M : Type 1} → statement M
-head-words-spec =
+pub head_words_spec : {M : Type 1} → statement M
+head_words_spec =
     tie.close
     (tie.spec
     cast-count

@@ -14,5 +14,5 @@ same_length c = search rules
 returns : tie.Need-returns
 returns c = let e = c.before.before.store_words_lem.ensures in (λ h k. e.0 h (omega arith), λ none. e.1 (λ h k. none h (omega arith)))
 
-pub load-words-spec : {M : Type 1} → statement M
-load-words-spec = tie.close (tie.spec store-words-requires same_length returns)
+pub load_words_spec : {M : Type 1} → statement M
+load_words_spec = tie.close (tie.spec store-words-requires same_length returns)

@@ -18,5 +18,5 @@ same_length c = search rules
 returns-2 : tie.Need-returns-2
 returns-2 c = (λ h. c.before.before.store-run.ensures, λ s. absurd (omega (arith, c.before.before.before.before.if1.false)))
 
-pub name-words-spec : {M : Type 1} → statement M
-name-words-spec = tie.close (tie.spec returns store-run-requires same_length returns-2)
+pub name_words_spec : {M : Type 1} → statement M
+name_words_spec = tie.close (tie.spec returns store-run-requires same_length returns-2)

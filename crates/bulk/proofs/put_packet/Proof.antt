@@ -3,7 +3,7 @@
 use mathlib.Core.Path.{refl}
 use native.Mathlib.Omega.{arith}
 use borrow.Author.Rules.{rules}
-use Rattle.bulk.proofs.Packet.{head-then-words, test_fits, test-fails}
+use Rattle.bulk.proofs.Packet.{head_then_words, test_fits, test_fails}
 use Rattle.bulk.proofs.put_packet.Statement.{statement}
 use Rattle.bulk.proofs.put_packet.Tie as tie
 
@@ -11,7 +11,7 @@ packet-fits-requires : tie.Need-packet-fits-requires
 packet-fits-requires c κs = search rules
 
 returns : tie.Need-returns
-returns c = (λ h. absurd (test-fails _ _ _ c.before.packet-fits.ensures c.if1.true h), λ n. refl)
+returns c = (λ h. absurd (test_fails _ _ _ c.before.packet-fits.ensures c.if1.true h), λ n. refl)
 
 head-words-requires : tie.Need-head-words-requires
 head-words-requires c κs =
@@ -39,13 +39,13 @@ returns-2 c =
     let at-fits = at_head.before in
     let start = at-fits.before.before.before.before in
     let fits = test_fits start.args.f start.args.words.now start.args.buffer.now at-fits.before.packet-fits.ensures at-fits.if1.false in (
-      λ h. head-then-words _ _ _ _ _ _ h at_head.head-words.ensures (at-header.put-words.ensures.0 (omega (arith, fits.room)))
+      λ h. head_then_words _ _ _ _ _ _ h at_head.head-words.ensures (at-header.put-words.ensures.0 (omega (arith, fits.room)))
           (at_words.put-words2.ensures.0 (omega (arith, fits.room))),
       λ none. absurd (none fits),
     )
 
-pub put-packet-spec : {M : Type 1} → statement M
-put-packet-spec =
+pub put_packet_spec : {M : Type 1} → statement M
+put_packet_spec =
     tie.close
     (tie.spec
     packet-fits-requires

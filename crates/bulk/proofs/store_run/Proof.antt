@@ -5,22 +5,22 @@ use Prim.Native.Nat.{◌≤◌, ◌<◌, ◌-◌}
 use native.Mathlib.Omega.{arith}
 use lib.ListN.{length, take, get_or}
 use Rattle.lists.specs.Splice.{splice}
-use Rattle.lists.proofs.Runs.{splice-none, copy-turn}
-use Rattle.wire.specs.Bytes.{wordsAt}
-use Rattle.wire.proofs.Words.{words-at-length, words-at-word}
-use Rattle.bulk.proofs.Words.{first-words}
+use Rattle.lists.proofs.Runs.{splice_none, copy_turn}
+use Rattle.wire.specs.Bytes.{words_at}
+use Rattle.wire.proofs.Words.{words_at_length, words_at_word}
+use Rattle.bulk.proofs.Words.{first_words_lem}
 use borrow.Author.Rules.{rules}
 use Rattle.bulk.proofs.store_run.Statement.{statement}
 use Rattle.bulk.proofs.store_run.Tie as tie
 
 abbrev invariant-loop : tie.invariant-loop
-invariant-loop words₀ from packet at n i₀ words i = (i ≤ n) × (words ≡ splice words₀ from (take i (wordsAt n packet at))) × (length words ≡ length words₀)
+invariant-loop words₀ from packet at n i₀ words i = (i ≤ n) × (words ≡ splice words₀ from (take i (words_at n packet at))) × (length words ≡ length words₀)
 
 abbrev decreases-loop : tie.decreases-loop
 decreases-loop words₀ from packet at n i₀ words i = n - i
 
 loop-holds : tie.Need-loop-init invariant-loop decreases-loop
-loop-holds c = (search rules, sym (splice-none _ _), search rules)
+loop-holds c = (search rules, sym (splice_none _ _), search rules)
 
 mul-word-at : tie.Need-overflow-mul-word-at invariant-loop decreases-loop
 mul-word-at c = search rules
@@ -51,10 +51,10 @@ loop-again c =
     let at-loop = c.before.before in
     let a = at-loop.before.before.before.args in
     let i = at-loop.loop.i in
-    let ws = wordsAt a.n a.packet.now a.at in
-    let k : i < length ws = omega (arith, words-at-length a.n a.packet.now a.at) in
-    let w : c.word_at.result ≡ get_or ws i 0 = c.word_at.ensures ∙ sym (words-at-word a.n _ _ i (omega arith)) in
-    (search rules, rw w (copy-turn a.words.now at-loop.loop.words ws a.from i k (omega arith) at-loop.loop.invariant.1), search rules)
+    let ws = words_at a.n a.packet.now a.at in
+    let k : i < length ws = omega (arith, words_at_length a.n a.packet.now a.at) in
+    let w : c.word_at.result ≡ get_or ws i 0 = c.word_at.ensures ∙ sym (words_at_word a.n _ _ i (omega arith)) in
+    (search rules, rw w (copy_turn a.words.now at-loop.loop.words ws a.from i k (omega arith) at-loop.loop.invariant.1), search rules)
 
 same_length : tie.Need-same-length invariant-loop decreases-loop
 same_length c = search rules
@@ -63,10 +63,10 @@ returns : tie.Need-returns invariant-loop decreases-loop
 returns c =
     let a = c.before.before.before.before.args in
     let n : c.before.loop.i ≡ a.n = omega arith in
-    rw (n, first-words a.n a.n a.packet.now a.at (omega arith)) at c.before.loop.invariant.1
+    rw (n, first_words_lem a.n a.n a.packet.now a.at (omega arith)) at c.before.loop.invariant.1
 
-pub store-run-spec : {M : Type 1} → statement M
-store-run-spec =
+pub store_run_spec : {M : Type 1} → statement M
+store_run_spec =
     tie.close
     (tie.spec
     invariant-loop

@@ -69,8 +69,8 @@ add-result-2 c = search rules
 returns-2 : tie.Need-returns-2
 returns-2 c = simp add-zero (omega arith)
 
-pub word-at-spec : {M : Type 1} → statement M
-word-at-spec =
+pub word_at_spec : {M : Type 1} → statement M
+word_at_spec =
     tie.close
     (tie.spec
     cast-get32

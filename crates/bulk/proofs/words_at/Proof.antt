@@ -46,8 +46,8 @@ returns-2 c =
     let n : from + start.args.n - from ≡ start.args.n = omega arith in
     (λ h. rw n, λ none. absurd (none (at_test.before.has_words.ensures.0 (not-false _ at_test.if1.false))))
 
-pub words-at-spec : {M : Type 1} → statement M
-words-at-spec =
+pub words_at_spec : {M : Type 1} → statement M
+words_at_spec =
     tie.close
     (tie.spec
     has-words-requires

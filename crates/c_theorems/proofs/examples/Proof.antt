@@ -7,5 +7,5 @@ use Rattle.c_theorems.proofs.examples.Tie as tie
 returns : tie.Need-returns
 returns c = computed
 
-pub examples-spec : {M : Type 1} → statement M
-examples-spec = tie.close (tie.spec returns)
+pub examples_spec : {M : Type 1} → statement M
+examples_spec = tie.close (tie.spec returns)

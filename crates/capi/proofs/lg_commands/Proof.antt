@@ -39,7 +39,7 @@ use denote.Triple.Clauses.{Lasts, ensured, lasts}
 use denote.Triple.Table.{entered, cited}
 use denote.Triple.Walked.{says, Stays, stay_none_slice, gave_slice, walk_of, Goes-none_slice, Goes-gave_slice, Walks, ends_at, walked, walk_Meets}
 use denote.Exit.{yes}
-use Rattle.answers.specs.Records.{putRecords}
+use Rattle.answers.specs.Records.{put_records}
 use Rattle.answers.specs.declared.ItemAnswer.{ItemAnswer}
 use Rattle.answers.specs.declared.Answered.{Answered}
 use Rattle.answers.specs.contracts.ItemAnswer as R
@@ -53,9 +53,9 @@ use Rattle.answers.specs.contracts.number_of as number_of_lem
 use Rattle.answers.proofs.number_of.Symbol as number-of-def
 use Rattle.answers.proofs.number_of.Symbol.{name as #answers·number-of}
 use Rattle.answers.proofs.number_of.Met as number-of-thm
-use Rattle.rules.specs.Results.{verdictNumber}
+use Rattle.rules.specs.Results.{verdict_number}
 use Rattle.batches.specs.Batch.{lends, Batch, LeftAs, Answers}
-use Rattle.lent_batch.specs.Batches.{lgCommands}
+use Rattle.lent_batch.specs.Batches.{lg_commands}
 use Rattle.lent_batch.specs.contracts.answered as core
 use Rattle.lent_batch.proofs.answered.Symbol as core-def
 use Rattle.lent_batch.proofs.answered.Symbol.{name as #core}
@@ -95,8 +95,8 @@ module _ {M : Type 1} {𝓤 : Ura M} (𝓛 : Logic 𝓤) (mem : Memory → SProp
   NumberOf = triple_of 𝓛 number_of_lem.signature (number_of_lem.spec 𝓛 mem run)
 
   -- of `number_of`'s `ensured`, the clause alone
-  number-said : (a : Answered) (n : ℕ) → ent 𝓤 (ensured 𝓛 number_of_lem.ended (number_of_lem.clauses 𝓛 mem run) tt (a, tt) tt n) (fact 𝓤 (n ≡ a.number))
-  number-said a n = ex_e 𝓤 _ (λ ws. snd∗ 𝓤 (sem 𝓛 (lasts number_of_lem.ended tt (a, tt) ws)) (fact 𝓤 (n ≡ a.number)))
+  number_said : (a : Answered) (n : ℕ) → ent 𝓤 (ensured 𝓛 number_of_lem.ended (number_of_lem.clauses 𝓛 mem run) tt (a, tt) tt n) (fact 𝓤 (n ≡ a.number))
+  number_said a n = ex_e 𝓤 _ (λ ws. snd∗ 𝓤 (sem 𝓛 (lasts number_of_lem.ended tt (a, tt) ws)) (fact 𝓤 (n ≡ a.number)))
 
 module _ {M : Type 1} {𝓤 : Ura M} (𝓛 : Logic 𝓤) (mem : Memory → SProp 𝓤) (run : Routine → Fun 𝓤)
     (κ₀ κ₁ κ₂ κ₃ κ₄ κ₅ κ₆ κ₇ : Lft) (q₀ q₁ q₂ q₃ q₄ q₅ q₆ q₇ : Share) (st bs ss ls sy im rs : Bor (List ℕ)) (an : Bor (List ItemAnswer)) where
@@ -106,11 +106,11 @@ module _ {M : Type 1} {𝓤 : Ura M} (𝓛 : Logic 𝓤) (mem : Memory → SProp
   room = length an.now
 
   -- ---- what the core's contract says
-  abbrev left_by : Batch (List ℕ)
-  left_by = lgCommands st.now (lends bs.now ss.now ls.now sy.now im.now rs.now) room
+  abbrev left_by_lem : Batch (List ℕ)
+  left_by_lem = lg_commands st.now (lends bs.now ss.now ls.now sy.now im.now rs.now) room
 
   abbrev Said : Answered → (st' im' rs' : List ℕ) → Type 0
-  Said r st' im' rs' = (r.number ≡ verdictNumber left_by.verdict) × Answers r room left_by.left.answers × LeftAs left_by st' im' rs'
+  Said r st' im' rs' = (r.number ≡ verdict_number left_by_lem.verdict) × Answers r room left_by_lem.left.answers × LeftAs left_by_lem st' im' rs'
 
   -- ---- the function's own lifetimes, arguments and machine values, and what its `post` is
   abbrev κs : Lfts 8
@@ -144,8 +144,8 @@ module _ {M : Type 1} {𝓤 : Ura M} (𝓛 : Logic 𝓤) (mem : Memory → SProp
   abbrev vals₇ : Vals core.signature κs₇
   vals₇ = (shr_slice_vals st, (shr_slice_vals bs, (shr_slice_vals ss, (shr_slice_vals ls, (shr_slice_vals sy, (shr_slice_vals im, (shr_slice_vals rs, (vint w64 room ∷ [], tt))))))))
 
-  abbrev to-core : (Core 𝓛 mem run).Ghost
-  to-core = ((κs₇, qs₇, tt, args₇, vals₇), tt)
+  abbrev to_core : (Core 𝓛 mem run).Ghost
+  to_core = ((κs₇, qs₇, tt, args₇, vals₇), tt)
 
   abbrev Tokens₇ : Item 𝓤
   Tokens₇ = ‵ (flft κ₀ q₀) ⊛ ‵ (flft κ₁ q₁) ⊛ ‵ (flft κ₂ q₂) ⊛ ‵ (flft κ₃ q₃) ⊛ ‵ (flft κ₄ q₄) ⊛ ‵ (flft κ₅ q₅) ⊛ ‵ (flft κ₆ q₆) ⊛ ‵ ftrue
@@ -154,39 +154,39 @@ module _ {M : Type 1} {𝓤 : Ura M} (𝓛 : Logic 𝓤) (mem : Memory → SProp
   Tokens = ‵ (flft κ₀ q₀) ⊛ ‵ (flft κ₁ q₁) ⊛ ‵ (flft κ₂ q₂) ⊛ ‵ (flft κ₃ q₃) ⊛ ‵ (flft κ₄ q₄) ⊛ ‵ (flft κ₅ q₅) ⊛ ‵ (flft κ₆ q₆) ⊛ ‵ (flft κ₇ q₇) ⊛ ‵ ftrue
 
   -- what each `&` owns, and the answers
-  abbrev own-bs : Fml
-  own-bs = (ShrSlice (named 1) κ₁ u8).own_val bs (shr_slice_vals bs)
+  abbrev own_bs : Fml
+  own_bs = (ShrSlice (named 1) κ₁ u8).own_val bs (shr_slice_vals bs)
 
-  abbrev own-ss : Fml
-  own-ss = (ShrSlice (named 2) κ₂ u32).own_val ss (shr_slice_vals ss)
+  abbrev own_ss : Fml
+  own_ss = (ShrSlice (named 2) κ₂ u32).own_val ss (shr_slice_vals ss)
 
-  abbrev own-ls : Fml
-  own-ls = (ShrSlice (named 3) κ₃ u32).own_val ls (shr_slice_vals ls)
+  abbrev own_ls : Fml
+  own_ls = (ShrSlice (named 3) κ₃ u32).own_val ls (shr_slice_vals ls)
 
-  abbrev own-sy : Fml
-  own-sy = (ShrSlice (named 4) κ₄ u8).own_val sy (shr_slice_vals sy)
+  abbrev own_sy : Fml
+  own_sy = (ShrSlice (named 4) κ₄ u8).own_val sy (shr_slice_vals sy)
 
-  abbrev own-an : Fml
-  own-an = (MutSlice (named 0) κ₇ R.the_row).own_val an (mut_slice_vals an)
+  abbrev own_an : Fml
+  own_an = (MutSlice (named 0) κ₇ R.the_row).own_val an (mut_slice_vals an)
 
   -- what the walk keeps while the core runs
   abbrev Shared : Item 𝓤
-  Shared = ‵ own-sy ⊛ ‵ own-ls ⊛ ‵ own-ss ⊛ ‵ own-bs
+  Shared = ‵ own_sy ⊛ ‵ own_ls ⊛ ‵ own_ss ⊛ ‵ own_bs
 
   abbrev Kept : Item 𝓤
-  Kept = (‵ (flft κ₇ q₇) ⊛ ‵ own-an) ⊛ Shared
+  Kept = (‵ (flft κ₇ q₇) ⊛ ‵ own_an) ⊛ Shared
 
-  asked-core : ent 𝓤 (on_entry 𝓛 core.signature κs₇ qs₇ args₇ vals₇) ((Core 𝓛 mem run).pre to-core)
-  asked-core = qed 𝓛 (raw (on_entry 𝓛 core.signature κs₇ qs₇ args₇ vals₇) ∷ []) ∵ frame ! $ done !
+  asked_core : ent 𝓤 (on_entry 𝓛 core.signature κs₇ qs₇ args₇ vals₇) ((Core 𝓛 mem run).pre to_core)
+  asked_core = qed 𝓛 (raw (on_entry 𝓛 core.signature κs₇ qs₇ args₇ vals₇) ∷ []) ∵ frame ! $ done !
 
   -- what is had on entry gives what the core asks, and what is kept
-  apart : Room R.the_row room → ent 𝓤 (on_entry 𝓛 lg.signature κs qs args vals) (mean 𝓛 (raw ((Core 𝓛 mem run).pre to-core) ⊛ Kept))
+  apart : Room R.the_row room → ent 𝓤 (on_entry 𝓛 lg.signature κs qs args vals) (mean 𝓛 (raw ((Core 𝓛 mem run).pre to_core) ⊛ Kept))
   apart fits =
       qed 𝓛 (Tokens ∷ ‵ (owns (MutSlice (named 0) κ₀ u32 ∷ ShrSlice (named 1) κ₁ u8 ∷ ShrSlice (named 2) κ₂ u32 ∷ ShrSlice (named 3) κ₃ u32 ∷ ShrSlice (named 4) κ₄ u8 ∷ MutSlice (named 5) κ₅ u32 ∷ MutSlice (named 6) κ₆ u8 ∷ MutSlice (named 7) κ₇ R.the_row ∷ []) args vals) ∷ []) ∵
-      move ! (1 ∷ []) $ fsplit ! $ move ! (1 ∷ []) $ fsplit ! $ use1 𝓛 (‵ own-bs ⊛ ‵ own-bs) ((shr_slice_copy 𝓛 (named 1) κ₁ u8).twice bs (shr_slice_vals bs)) $ split ! $
-      move ! (2 ∷ []) $ fsplit ! $ use1 𝓛 (‵ own-ss ⊛ ‵ own-ss) ((shr_slice_copy 𝓛 (named 2) κ₂ u32).twice ss (shr_slice_vals ss)) $ split ! $
-      move ! (2 ∷ []) $ fsplit ! $ use1 𝓛 (‵ own-ls ⊛ ‵ own-ls) ((shr_slice_copy 𝓛 (named 3) κ₃ u32).twice ls (shr_slice_vals ls)) $ split ! $
-      move ! (2 ∷ []) $ fsplit ! $ use1 𝓛 (‵ own-sy ⊛ ‵ own-sy) ((shr_slice_copy 𝓛 (named 4) κ₄ u8).twice sy (shr_slice_vals sy)) $ split ! $
+      move ! (1 ∷ []) $ fsplit ! $ move ! (1 ∷ []) $ fsplit ! $ use1 𝓛 (‵ own_bs ⊛ ‵ own_bs) ((shr_slice_copy 𝓛 (named 1) κ₁ u8).twice bs (shr_slice_vals bs)) $ split ! $
+      move ! (2 ∷ []) $ fsplit ! $ use1 𝓛 (‵ own_ss ⊛ ‵ own_ss) ((shr_slice_copy 𝓛 (named 2) κ₂ u32).twice ss (shr_slice_vals ss)) $ split ! $
+      move ! (2 ∷ []) $ fsplit ! $ use1 𝓛 (‵ own_ls ⊛ ‵ own_ls) ((shr_slice_copy 𝓛 (named 3) κ₃ u32).twice ls (shr_slice_vals ls)) $ split ! $
+      move ! (2 ∷ []) $ fsplit ! $ use1 𝓛 (‵ own_sy ⊛ ‵ own_sy) ((shr_slice_copy 𝓛 (named 4) κ₄ u8).twice sy (shr_slice_vals sy)) $ split ! $
       move ! (2 ∷ []) $ fsplit ! $ move ! (1 ∷ []) $ fsplit ! $ move ! (1 ∷ []) $ fsplit ! $
       -- [answers; true; replies; image; symbols, twice; lengths, twice; starts, twice; bytes, twice; state; the tokens]
       move ! (1 ∷ []) $ owned ! usize (Is usize) (uint_Makes 𝓛 w64) room _ (refl, fits.0) $ fjoin ! $ move ! (2 ∷ 0 ∷ []) $ fjoin ! $ move ! (2 ∷ 0 ∷ []) $ fjoin ! $ move ! (2 ∷ 0 ∷ []) $ fjoin ! $
@@ -195,16 +195,16 @@ module _ {M : Type 1} {𝓤 : Ura M} (𝓛 : Logic 𝓤) (mem : Memory → SProp
       move ! (6 ∷ []) $ split ! $ move ! (1 ∷ []) $ split ! $ move ! (1 ∷ []) $ split ! $ move ! (1 ∷ []) $ split ! $ move ! (1 ∷ []) $ split ! $ move ! (1 ∷ []) $ split ! $ move ! (1 ∷ []) $ split ! $ move ! (1 ∷ []) $ split ! $
       move ! (2 ∷ 1 ∷ []) $ join ! $ move ! (2 ∷ 0 ∷ []) $ join ! $ move ! (2 ∷ 0 ∷ []) $ join ! $ move ! (2 ∷ 0 ∷ []) $ join ! $ move ! (2 ∷ 0 ∷ []) $ join ! $ move ! (2 ∷ 0 ∷ []) $ join ! $ move ! (2 ∷ 0 ∷ []) $ join ! $
       -- [the core's tokens; answers' token; what the core is passed; answers; symbols; lengths; starts; bytes]
-      move ! (0 ∷ 2 ∷ []) $ use2 𝓛 (raw ((Core 𝓛 mem run).pre to-core)) asked-core $ frame ! $ join ! $ frame ! $ done !
+      move ! (0 ∷ 2 ∷ []) $ use2 𝓛 (raw ((Core 𝓛 mem run).pre to_core)) asked_core $ frame ! $ join ! $ frame ! $ done !
 
   -- ---- what `put_records` and `number_of` are passed: the answer r, at the machine value v
   module _ (r : Answered) (v : Val) (is-r : Is S.the_row r (v ∷ [])) where
-    abbrev to-put : (Put 𝓛 mem run).Ghost
-    to-put = (((κ₇, tt), (q₇, tt), tt, (an, (r, tt)), (shr_slice_vals an, (v ∷ [], tt))), tt)
+    abbrev to_put : (Put 𝓛 mem run).Ghost
+    to_put = (((κ₇, tt), (q₇, tt), tt, (an, (r, tt)), (shr_slice_vals an, (v ∷ [], tt))), tt)
 
-    goes-put : ent 𝓤 (mean 𝓛 (‵ (flft κ₇ q₇) ⊛ ‵ own-an)) ((Put 𝓛 mem run).pre to-put)
-    goes-put =
-        qed 𝓛 (‵ (flft κ₇ q₇) ∷ ‵ own-an ∷ []) ∵ nothing ! $ owned ! S.the_row (Is S.the_row) (LL.makes S.the_type S'.the_plain 𝓛) r _ is-r $ fjoin ! $ move ! (2 ∷ 0 ∷ []) $ fjoin ! $
+    goes_put : ent 𝓤 (mean 𝓛 (‵ (flft κ₇ q₇) ⊛ ‵ own_an)) ((Put 𝓛 mem run).pre to_put)
+    goes_put =
+        qed 𝓛 (‵ (flft κ₇ q₇) ∷ ‵ own_an ∷ []) ∵ nothing ! $ owned ! S.the_row (Is S.the_row) (LL.makes S.the_type S'.the_plain 𝓛) r _ is-r $ fjoin ! $ move ! (2 ∷ 0 ∷ []) $ fjoin ! $
         nothing ! $ move ! (2 ∷ 0 ∷ []) $ join ! $ join ! $ frame ! $ done !
 
     abbrev to_number : (NumberOf 𝓛 mem run).Ghost
@@ -215,7 +215,7 @@ module _ {M : Type 1} {𝓤 : Ura M} (𝓛 : Logic 𝓤) (mem : Memory → SProp
 
   -- ---- the exit: what is said of each `&mut`'s last list, the shared slices, and the result
   exits : (n : ℕ) (y : Val) (r : Answered) (ws : Lasts core.ended κs₇ args₇) (zs : Lasts put.ended (κ₇, tt) (an, (r, tt)))
-      → Said r ws.0 ws.1.1.1.1.1.0 ws.1.1.1.1.1.1.0 → zs.0 ≡ putRecords an.now r (min r.filled room) → n ≡ r.number
+      → Said r ws.0 ws.1.1.1.1.1.0 ws.1.1.1.1.1.1.0 → zs.0 ≡ put_records an.now r (min r.filled room) → n ≡ r.number
       → ent 𝓤 (⋆ 𝓛 (‵ (u32.own_val n (y ∷ [])) ∷ (‵ (flft κ₇ q₇) ⊛ ‵ ftrue) ∷ ‵ (lasts put.ended (κ₇, tt) (an, (r, tt)) zs) ∷ Shared ∷ Tokens₇ ∷ ‵ (lasts core.ended κs₇ args₇ ws) ∷ [])) (Post y)
   exits n y r ws zs e e₂ e₃ =
       qed 𝓛 (‵ (u32.own_val n (y ∷ [])) ∷ (‵ (flft κ₇ q₇) ⊛ ‵ ftrue) ∷ ‵ (lasts put.ended (κ₇, tt) (an, (r, tt)) zs) ∷ Shared ∷ Tokens₇ ∷ ‵ (lasts core.ended κs₇ args₇ ws) ∷ []) ∵
@@ -249,8 +249,8 @@ module _ {M : Type 1} {𝓤 : Ura M} (𝓛 : Logic 𝓤) (mem : Memory → SProp
         assigns ! (agg ! (and_then ! (load ! (from ! (stop !)) (look ! 10 refl)) (and_then ! (load ! (from ! (fld ! refl (stop !))) (look_in ! 24 (sub ! 1 refl (whole !)))) (no_more !)))) (from ! (stop !)) (init ! 8 refl (tt, (tt, (record { fits = g₆.0 }, tt)))) $
         assigns ! (of_opd ! (load ! (from ! (fld ! refl (stop !))) (look_in ! 22 (sub ! 1 refl (whole !))))) (from ! (stop !)) (init ! 6 refl (tt, record { fits = g₇.0 })) $
         -- the core
-        move ! (40 ∷ []) $ use1 𝓛 (raw ((Core 𝓛 mem run).pre to-core) ⊛ Kept) (apart g₇) $ split ! $
-        calls_at ! fm (Core 𝓛 mem run) known-core to-core (and_then ! (load ! (from ! (stop !)) (look ! 18 refl)) (and_then ! (load ! (from ! (stop !)) (look ! 36 refl)) (and_then ! (load ! (from ! (stop !)) (look ! 34 refl)) (and_then ! (load ! (from ! (stop !)) (look ! 32 refl)) (and_then ! (load ! (from ! (stop !)) (look ! 30 refl)) (and_then ! (load ! (from ! (stop !)) (look ! 14 refl)) (and_then ! (load ! (from ! (stop !)) (look ! 10 refl)) (and_then ! (load ! (from ! (stop !)) (look ! 8 refl)) (no_more !))))))))) (λ v.
+        move ! (40 ∷ []) $ use1 𝓛 (raw ((Core 𝓛 mem run).pre to_core) ⊛ Kept) (apart g₇) $ split ! $
+        calls_at ! fm (Core 𝓛 mem run) known-core to_core (and_then ! (load ! (from ! (stop !)) (look ! 18 refl)) (and_then ! (load ! (from ! (stop !)) (look ! 36 refl)) (and_then ! (load ! (from ! (stop !)) (look ! 34 refl)) (and_then ! (load ! (from ! (stop !)) (look ! 32 refl)) (and_then ! (load ! (from ! (stop !)) (look ! 30 refl)) (and_then ! (load ! (from ! (stop !)) (look ! 14 refl)) (and_then ! (load ! (from ! (stop !)) (look ! 10 refl)) (and_then ! (load ! (from ! (stop !)) (look ! 8 refl)) (no_more !))))))))) (λ v.
         use1 𝓛 (later (some (λ (r : Answered). (Tokens₇ ⊛ ‵ ((S.the_row).own_val r (v ∷ []))) ⊛ raw (ensured 𝓛 core.ended (core.clauses 𝓛 mem run) κs₇ args₇ tt r)))) (id⊢ 𝓤 _) $ await ! tt $ pick ! (λ r.
         split ! $ move ! (1 ∷ []) $ use1 𝓛 (some (λ (ws : Lasts core.ended κs₇ args₇). ‵ (lasts core.ended κs₇ args₇ ws) ⊛ raw (fact 𝓤 (Said r ws.0 ws.1.1.1.1.1.0 ws.1.1.1.1.1.1.0)))) (id⊢ 𝓤 _) $ pick ! (λ ws.
         split ! $ move ! (1 ∷ []) $ heard ! (Said r ws.0 ws.1.1.1.1.1.0 ws.1.1.1.1.1.1.0) (λ e.
@@ -260,11 +260,11 @@ module _ {M : Type 1} {𝓤 : Ura M} (𝓛 : Logic 𝓤) (mem : Memory → SProp
         assigns ! (addr ! (from ! (fld ! refl (hop ! (look_in ! 25 (sub ! 0 refl (whole !))) (stop !))))) (from ! (stop !)) (init ! 5 refl (tt, tt)) $
         assigns ! (agg ! (and_then ! (load ! (from ! (stop !)) (look ! 5 refl)) (and_then ! (load ! (from ! (fld ! refl (stop !))) (look_in ! 25 (sub ! 1 refl (whole !)))) (no_more !)))) (from ! (stop !)) (init ! 3 refl (tt, (tt, (record { fits = g₇.0 }, tt)))) $
         -- `put_records`
-        move ! (2 ∷ []) $ split ! $ use1 𝓛 (raw ((Put 𝓛 mem run).pre (to-put r v is-r))) (goes-put r v is-r) $
-        calls_at ! fm (Put 𝓛 mem run) known-put (to-put r v is-r) (and_then ! (load ! (from ! (stop !)) (look ! 4 refl)) (and_then ! (load ! (from ! (stop !)) (look ! 24 refl)) (no_more !))) (λ w.
+        move ! (2 ∷ []) $ split ! $ use1 𝓛 (raw ((Put 𝓛 mem run).pre (to_put r v is-r))) (goes_put r v is-r) $
+        calls_at ! fm (Put 𝓛 mem run) known-put (to_put r v is-r) (and_then ! (load ! (from ! (stop !)) (look ! 4 refl)) (and_then ! (load ! (from ! (stop !)) (look ! 24 refl)) (no_more !))) (λ w.
         use1 𝓛 (later (some (λ (u : Unit {0}). ((‵ (flft κ₇ q₇) ⊛ ‵ ftrue) ⊛ ‵ (unit.own_val u (w ∷ []))) ⊛ raw (ensured 𝓛 put.ended (put.clauses 𝓛 mem run) (κ₇, tt) (an, (r, tt)) tt u)))) (id⊢ 𝓤 _) $ await ! tt $ pick ! (λ u.
-        split ! $ move ! (1 ∷ []) $ use1 𝓛 (some (λ (zs : Lasts put.ended (κ₇, tt) (an, (r, tt))). ‵ (lasts put.ended (κ₇, tt) (an, (r, tt)) zs) ⊛ raw (fact 𝓤 (zs.0 ≡ putRecords an.now r (min r.filled room))))) (id⊢ 𝓤 _) $ pick ! (λ zs.
-        split ! $ move ! (1 ∷ []) $ heard ! (zs.0 ≡ putRecords an.now r (min r.filled room)) (λ e₂.
+        split ! $ move ! (1 ∷ []) $ use1 𝓛 (some (λ (zs : Lasts put.ended (κ₇, tt) (an, (r, tt))). ‵ (lasts put.ended (κ₇, tt) (an, (r, tt)) zs) ⊛ raw (fact 𝓤 (zs.0 ≡ put_records an.now r (min r.filled room))))) (id⊢ 𝓤 _) $ pick ! (λ zs.
+        split ! $ move ! (1 ∷ []) $ heard ! (zs.0 ≡ put_records an.now r (min r.filled room)) (λ e₂.
         move ! (1 ∷ []) $ split ! $ move ! (1 ∷ []) $ facts ! unit (Is unit) (shows 𝓛 unit) u (w ∷ []) (λ is-u.
         -- [answers' token; its last list; the shared slices; the core's tokens; its last lists; _19; …]
         land ! (from ! (stop !)) (init ! 9 refl ((Nothing-Lawful 𝓛).typed u _ is-u).0) $
@@ -272,7 +272,7 @@ module _ {M : Type 1} {𝓤 : Ura M} (𝓛 : Logic 𝓤) (mem : Memory → SProp
         use0 𝓛 (raw ((NumberOf 𝓛 mem run).pre (to_number r v is-r))) (goes_number r v is-r) $
         calls_at ! fm (NumberOf 𝓛 mem run) known-number (to_number r v is-r) (and_then ! (load ! (from ! (stop !)) (look ! 26 refl)) (no_more !)) (λ y.
         use1 𝓛 (later (some (λ (n : ℕ). (‵ ftrue ⊛ ‵ (u32.own_val n (y ∷ []))) ⊛ raw (ensured 𝓛 number_of_lem.ended (number_of_lem.clauses 𝓛 mem run) tt (r, tt) tt n)))) (id⊢ 𝓤 _) $ await ! tt $ pick ! (λ n.
-        split ! $ move ! (1 ∷ []) $ use1 𝓛 (raw (fact 𝓤 (n ≡ r.number))) (number-said 𝓛 mem run r n) $ heard ! (n ≡ r.number) (λ e₃. split ! $ drop ! $
+        split ! $ move ! (1 ∷ []) $ use1 𝓛 (raw (fact 𝓤 (n ≡ r.number))) (number_said 𝓛 mem run r n) $ heard ! (n ≡ r.number) (λ e₃. split ! $ drop ! $
         peeks ! u32 (Is u32) (shows 𝓛 u32) n (y ∷ []) (λ is-n.
         -- [the result; answers' token; its last list; the shared slices; the core's tokens; its last lists; _19; …]
         land ! (from ! (stop !)) (init ! 44 refl ((uint_Lawful 𝓛 w32).typed n _ is-n).0) $ returns ! (look ! 44 refl) $
@@ -284,8 +284,8 @@ module _ {M : Type 1} {𝓤 : Ura M} (𝓛 : Logic 𝓤) (mem : Memory → SProp
     (known-core : Triple 𝓤 (𝓣.C #core) (Core 𝓛 mem run)) (known-put : Triple 𝓤 (𝓣.C #answers·put-records) (Put 𝓛 mem run)) (known-number : Triple 𝓤 (𝓣.C #answers·number-of) (NumberOf 𝓛 mem run)) where
   open 𝓛 use {H}
 
-  lg-walks : Walks 𝓛 lg.ended stayed (WpFn 𝓤 H 𝓣.C 𝓣.Λ code.function) (lg.clauses 𝓛 mem run)
-  lg-walks = walked 𝓛 lg.ended stayed (lg.clauses 𝓛 mem run) (WpFn 𝓤 H 𝓣.C 𝓣.Λ code.function)
+  lg_walks : Walks 𝓛 lg.ended stayed (WpFn 𝓤 H 𝓣.C 𝓣.Λ code.function) (lg.clauses 𝓛 mem run)
+  lg_walks = walked 𝓛 lg.ended stayed (lg.clauses 𝓛 mem run) (WpFn 𝓤 H 𝓣.C 𝓣.Λ code.function)
       (λ κs. (shr_slice_vals, (shr_slice_vals, (shr_slice_vals, (shr_slice_vals, (shr_slice_vals, (shr_slice_vals, (shr_slice_vals, (shr_slice_vals, tt)))))))))
       (λ κs. (
         mut_slice_Tells (named 0) κs.0 u32,
@@ -309,8 +309,8 @@ module _ {M : Type 1} {𝓤 : Ura M} (𝓛 : Logic 𝓤) (mem : Memory → SProp
       a.0 a.1.0 a.1.1.0 a.1.1.1.0 a.1.1.1.1.0 a.1.1.1.1.1.0 a.1.1.1.1.1.1.0 a.1.1.1.1.1.1.1.0 𝓣.C 𝓣.Λ (fm_of 𝓤 H 𝓛.laws 𝓣) known-core known-put known-number
       are.0.0.1 are.1.0.0.1 are.1.1.0.0.1 are.1.1.1.0.0.1 are.1.1.1.1.0.0.1 are.1.1.1.1.1.0.0.1 are.1.1.1.1.1.1.0.0.1 are.1.1.1.1.1.1.1.0.0.1))
 
-  lg-meets : Meets 𝓛 lg.signature (WpFn 𝓤 H 𝓣.C 𝓣.Λ code.function) (lg.spec 𝓛 mem run)
-  lg-meets =
+  lg_meets : Meets 𝓛 lg.signature (WpFn 𝓤 H 𝓣.C 𝓣.Λ code.function) (lg.spec 𝓛 mem run)
+  lg_meets =
       walk_Meets 𝓛 lg.ended stayed (
         Goes-gave_slice 𝓛 8 0 tt (plain (λ _. u32)),
         (
@@ -327,14 +327,14 @@ module _ {M : Type 1} {𝓤 : Ura M} (𝓛 : Logic 𝓤) (mem : Memory → SProp
           ),
         ),
       ) (lg.clauses 𝓛 mem run)
-      (WpFn 𝓤 H 𝓣.C 𝓣.Λ code.function) (WpFn-mono 𝓤 H 𝓛.laws 𝓣 code.function) lg-walks
+      (WpFn 𝓤 H 𝓣.C 𝓣.Λ code.function) (WpFn-mono 𝓤 H 𝓛.laws 𝓣 code.function) lg_walks
 
-pub lg-commands-spec : {M : Type 1} → stated.statement M
+pub lg_commands_spec : {M : Type 1} → stated.statement M
 unfolding code.routine tables_of
-lg-commands-spec 𝓤 𝓛 𝓜 𝓡 =
+lg_commands_spec 𝓤 𝓛 𝓜 𝓡 =
     entered 𝓤 𝓛.H (triple_of 𝓛 lg.signature (lg.spec 𝓛 𝓜.mem 𝓡.run))
     (tables 𝓤 𝓛.H 𝓜 𝓡 code.env).C (tables 𝓤 𝓛.H 𝓜 𝓡 code.env).Λ #capi·lg-commands code.function (code.unfolded 𝓤 𝓛.H 𝓜 𝓡)
-    (lg-meets 𝓛 𝓜.mem 𝓡.run (tables_of 𝓤 𝓛.H 𝓜 (tables 𝓤 𝓛.H 𝓜 𝓡 code.env))
+    (lg_meets 𝓛 𝓜.mem 𝓡.run (tables_of 𝓤 𝓛.H 𝓜 (tables 𝓤 𝓛.H 𝓜 𝓡 code.env))
     (cited 𝓤 𝓛.H (Core 𝓛 𝓜.mem 𝓡.run) 𝓜 𝓡 code.env #core core-def.routine code.calls-lent-batch::answered (core-thm.met 𝓤 𝓛 𝓜 𝓡))
     (cited 𝓤 𝓛.H (Put 𝓛 𝓜.mem 𝓡.run) 𝓜 𝓡 code.env #answers·put-records put-def.routine code.calls-answers::put-records (put-thm.met 𝓤 𝓛 𝓜 𝓡))
     (cited 𝓤 𝓛.H (NumberOf 𝓛 𝓜.mem 𝓡.run) 𝓜 𝓡 code.env #answers·number-of number-of-def.routine code.calls-answers::number-of (number-of-thm.met 𝓤 𝓛 𝓜 𝓡)))

@@ -1,12 +1,12 @@
 -- `capi::lg_read_command` meets its contract.
 -- Assumes nothing.
-use Rattle.capi.proofs.Reading.{command-other, command-unread, command-done}
+use Rattle.capi.proofs.Reading.{command_other, command_unread, command_done}
 use borrow.Author.Rules.{rules}
 use Rattle.capi.proofs.lg_read_command.Statement.{statement}
 use Rattle.capi.proofs.lg_read_command.Tie as tie
 
 returns : tie.Need-returns
-returns c = command-other _ _ c.if1.true
+returns c = command_other _ _ c.if1.true
 
 reading-of-requires : tie.Need-reading-of-requires
 reading-of-requires c κs = search rules
@@ -18,7 +18,7 @@ refusal-number-requires : tie.Need-refusal-number-requires
 refusal-number-requires c κs = search rules
 
 returns-2 : tie.Need-returns-2
-returns-2 c = command-unread _ _ c.before.before.before.before.before.if1.false _ c.before.before.before.before.reading-of.ensures _ c.before.before.reading.given.1 _ c.refusal-number.ensures
+returns-2 c = command_unread _ _ c.before.before.before.before.before.if1.false _ c.before.before.before.before.reading-of.ensures _ c.before.before.reading.given.1 _ c.refusal-number.ensures
 
 enum-known-reading-2 : tie.Need-enum-known-reading-2
 enum-known-reading-2 c = search rules
@@ -65,10 +65,10 @@ returns-3 c =
     let at_head = at-head-put.before.before.before in
     let at-reading = at_head.before.before in
     let at_read = at-reading.before.before in
-    command-done _ _ at_read.before.if1.false _ at_read.reading-of.ensures _ at-reading.reading2.given.1 _ at_head.head-words.ensures _ at-head-put.put-run.ensures.0 _ at-beside.put-beside.ensures.0 _ at_tail.tail-words.ensures _ at-tail-put.put-run2.ensures.0
+    command_done _ _ at_read.before.if1.false _ at_read.reading-of.ensures _ at-reading.reading2.given.1 _ at_head.head-words.ensures _ at-head-put.put-run.ensures.0 _ at-beside.put-beside.ensures.0 _ at_tail.tail-words.ensures _ at-tail-put.put-run2.ensures.0
 
-pub lg-read-command-spec : {M : Type 1} → statement M
-lg-read-command-spec =
+pub lg_read_command_spec : {M : Type 1} → statement M
+lg_read_command_spec =
     tie.close
     (tie.spec
     returns

@@ -1,12 +1,12 @@
 -- `capi::lg_write_command` meets its contract.
 -- Assumes nothing.
-use Rattle.capi.proofs.Writing.{write-other, write-unknown, write_done}
+use Rattle.capi.proofs.Writing.{write_other, write_unknown, write_done}
 use borrow.Author.Rules.{rules}
 use Rattle.capi.proofs.lg_write_command.Statement.{statement}
 use Rattle.capi.proofs.lg_write_command.Tie as tie
 
 returns : tie.Need-returns
-returns c = write-other _ _ c.if1.true
+returns c = write_other _ _ c.if1.true
 
 command-in-requires : tie.Need-command-in-requires
 command-in-requires c κs = search rules
@@ -15,7 +15,7 @@ enum_told : tie.Need-enum-told
 enum_told c = search rules
 
 returns-2 : tie.Need-returns-2
-returns-2 c = write-unknown _ _ c.before.before.before.if1.false _ c.before.before.command-in.ensures c.enum_told.given.1
+returns-2 c = write_unknown _ _ c.before.before.before.if1.false _ c.before.before.command-in.ensures c.enum_told.given.1
 
 enum-known-decoded : tie.Need-enum-known-decoded
 enum-known-decoded c = search rules
@@ -44,8 +44,8 @@ same_length c = search rules
 returns-3 : tie.Need-returns-3
 returns-3 c = write_done _ _ c.before.before.before.before.before.before.before.before.before.before.before.before.if1.false _ c.before.before.before.before.before.before.before.before.before.before.before.command-in.ensures _ c.before.before.before.before.before.before.before.before.before.decoded.given.1 _ c.before.before.before.before.before.before.before.header-in.ensures _ _ c.before.before.before.before.write-packet.ensures _ _ c.hand-over.ensures
 
-pub lg-write-command-spec : {M : Type 1} → statement M
-lg-write-command-spec =
+pub lg_write_command_spec : {M : Type 1} → statement M
+lg_write_command_spec =
     tie.close
     (tie.spec
     returns

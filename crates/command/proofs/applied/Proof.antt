@@ -70,8 +70,8 @@ returns-6 c = rw (c.before.before.enum-told2.given.1, c.before.raised3.ensures, 
 returns-7 : tie.Need-returns-7
 returns-7 c = rw (c.before.before.enum-told3.given.1, c.before.raised5.ensures, c.raised6.ensures)
 
-pub applied-spec : {M : Type 1} → statement M
-applied-spec =
+pub applied_spec : {M : Type 1} → statement M
+applied_spec =
     tie.close
     (tie.spec
     enum-known-d

@@ -1,8 +1,8 @@
 -- `command::by_task` meets its contract.
 -- Assumes nothing.
 use mathlib.Core.Path.{◌∙◌}
-use Rattle.rules.specs.Commands.{firstWith}
-use Rattle.places.specs.Turns.{firstWithin}
+use Rattle.rules.specs.Commands.{first_with}
+use Rattle.places.specs.Turns.{first_within}
 use borrow.Author.Rules.{rules}
 use Rattle.command.proofs.by_task.Statement.{statement}
 use Rattle.command.proofs.by_task.Tie as tie
@@ -68,13 +68,13 @@ returns : tie.Need-returns
 returns c = λ good. rw c.enum_told.given.1
 
 returns-2 : tie.Need-returns-2
-unfolding firstWithin firstWith
+unfolding first_within first_with
 returns-2 c = λ good.
     rw c.before.before.before.before.before.k.given.1
     (c.dump.ensures ∙ rw (c.before.before.before.find.ensures good, c.before.before.first-with.ensures, c.before.first-idle.ensures))
 
 returns-3 : tie.Need-returns-3
-unfolding firstWithin firstWith
+unfolding first_within first_with
 returns-3 c = λ good. rw c.before.before.enum-told2.given.1 (c.cancel.ensures ∙ rw c.before.first-with2.ensures)
 
 returns-4 : tie.Need-returns-4
@@ -92,8 +92,8 @@ returns-5 c = λ good.
 returns-6 : tie.Need-returns-6
 returns-6 c = λ good. rw c.before.k4.given.1
 
-pub by-task-spec : {M : Type 1} → statement M
-by-task-spec =
+pub by_task_spec : {M : Type 1} → statement M
+by_task_spec =
     tie.close
     (tie.spec
     enum_told

@@ -1,7 +1,7 @@
 -- `command::command` meets its contract.
 -- Assumes nothing.
 use mathlib.Core.Path.{refl}
-use Rattle.decide.proofs.Commands.{command-done}
+use Rattle.decide.proofs.Commands.{command_done}
 use borrow.Author.Rules.{rules}
 use Rattle.command.proofs.command.Statement.{statement}
 use Rattle.command.proofs.command.Tie as tie
@@ -28,10 +28,10 @@ same-length-2 : tie.Need-same-length-2
 same-length-2 c = search rules
 
 returns : tie.Need-returns
-returns c = command-done _ _ (c.before.before.before.before.before.before.before.before.before.decide.ensures _ c.before.before.before.before.before.before.before.before.before.before.before.good-words.ensures refl) c.before.answer-of.ensures c.applied.ensures c.before.before.before.before.before.before.write-out.ensures
+returns c = command_done _ _ (c.before.before.before.before.before.before.before.before.before.decide.ensures _ c.before.before.before.before.before.before.before.before.before.before.before.good-words.ensures refl) c.before.answer-of.ensures c.applied.ensures c.before.before.before.before.before.before.write-out.ensures
 
-pub command-spec : {M : Type 1} → statement M
-command-spec =
+pub command_spec : {M : Type 1} → statement M
+command_spec =
     tie.close
     (tie.spec
     good-words-requires

@@ -1,6 +1,6 @@
 -- `command::decide` meets its contract.
 -- Assumes nothing.
-use Rattle.decide.proofs.Commands.{step-shut, step-open}
+use Rattle.decide.proofs.Commands.{step_shut, step_open}
 use borrow.Author.Rules.{rules}
 use Rattle.command.proofs.decide.Statement.{statement}
 use Rattle.command.proofs.decide.Tie as tie
@@ -21,13 +21,13 @@ by-task-requires : tie.Need-by-task-requires
 by-task-requires c κs = search rules
 
 returns : tie.Need-returns
-returns c = λ bytes eg e. step-shut _ _ eg e c.before.before.before.opened-by.ensures c.before.sought.given.1
+returns c = λ bytes eg e. step_shut _ _ eg e c.before.before.before.opened-by.ensures c.before.sought.given.1
 
 returns-2 : tie.Need-returns-2
-returns-2 c = λ bytes eg e. step-open _ _ eg e c.before.before.before.before.before.opened-by.ensures c.before.before.before.sought2.given.1 c.before.transaction-of.ensures c.by-task.ensures
+returns-2 c = λ bytes eg e. step_open _ _ eg e c.before.before.before.before.before.opened-by.ensures c.before.before.before.sought2.given.1 c.before.transaction-of.ensures c.by_task_lem.ensures
 
-pub decide-spec : {M : Type 1} → statement M
-decide-spec =
+pub decide_spec : {M : Type 1} → statement M
+decide_spec =
     tie.close
     (tie.spec
     opened-by-requires

@@ -21,5 +21,5 @@ returns c = search rules
 returns-2 : tie.Need-returns-2
 returns-2 c = let past : length c.before.args.t1 ≤ c.before.args.i = omega arith in sym (get_or-eq_default c.before.args.t1 no_range past)
 
-pub pool-at-spec : {M : Type 1} → statement M
-pool-at-spec = tie.close (tie.spec mul-result array-copy-out-result returns returns-2)
+pub pool_at_spec : {M : Type 1} → statement M
+pool_at_spec = tie.close (tie.spec mul-result array-copy-out-result returns returns-2)

@@ -19,5 +19,5 @@ cast-result c = let low = mod-lt (c.args.count + 1) c.requires.0 in omega arith
 returns : tie.Need-returns
 returns c = search rules
 
-pub raised-spec : {M : Type 1} → statement M
-raised-spec = tie.close (tie.spec add-result rem-result cast-result returns)
+pub raised_spec : {M : Type 1} → statement M
+raised_spec = tie.close (tie.spec add-result rem-result cast-result returns)

@@ -13,5 +13,5 @@ raised-requires c κs = search rules
 returns : tie.Need-returns
 returns c = rw (c.before.set-context.ensures, c.raised.ensures)
 
-pub with-context-spec : {M : Type 1} → statement M
-with-context-spec = tie.close (tie.spec set-context-requires raised-requires returns)
+pub with_context_spec : {M : Type 1} → statement M
+with_context_spec = tie.close (tie.spec set-context-requires raised-requires returns)

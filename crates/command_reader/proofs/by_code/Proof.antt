@@ -1,9 +1,9 @@
 -- `command_reader::by_code` meets its contract.
 -- Assumes nothing.
 use mathlib.Core.Path.{sym, ◌∙◌}
-use Rattle.rules.specs.Packets.{zeroRules, symbolRequestOf}
-use Rattle.command_reader.proofs.Steps.{zeros-by-name}
-use Rattle.rules.proofs.Allowed.{decode-dump, decode-cancel, decode-load, decode-pool, decode-value, decode-by-name, decode-other}
+use Rattle.rules.specs.Packets.{zero_rules, symbol_request_of}
+use Rattle.command_reader.proofs.Steps.{zeros_by_name}
+use Rattle.rules.proofs.Allowed.{decode_dump, decode_cancel, decode_load, decode_pool, decode_value, decode_by_name, decode_other}
 use borrow.Author.Rules.{rules}
 use Rattle.command_reader.proofs.by_code.Statement.{statement}
 use Rattle.command_reader.proofs.by_code.Tie as tie
@@ -54,49 +54,49 @@ given-requires-6 : tie.Need-given-requires-6
 given-requires-6 c κs = search rules
 
 returns : tie.Need-returns
-unfolding zeroRules
+unfolding zero_rules
 returns c =
     let picked = c.before.before in
-    rw (decode-dump _ (sym picked.before.function-code.ensures ∙ picked.match.keys1), ← c.before.request-in.ensures) c.given.ensures
+    rw (decode_dump _ (sym picked.before.function-code.ensures ∙ picked.match.keys1), ← c.before.request-in.ensures) c.given.ensures
 
 returns-2 : tie.Need-returns-2
-unfolding zeroRules
+unfolding zero_rules
 returns-2 c =
     let picked = c.before in
-    rw (decode-cancel _ (sym picked.before.function-code.ensures ∙ picked.match.keys2)) c.given2.ensures
+    rw (decode_cancel _ (sym picked.before.function-code.ensures ∙ picked.match.keys2)) c.given2.ensures
 
 returns-3 : tie.Need-returns-3
-unfolding zeroRules
+unfolding zero_rules
 returns-3 c =
     let picked = c.before.before in
-    rw (decode-load _ (sym picked.before.function-code.ensures ∙ picked.match.keys3), ← c.before.request-in2.ensures) c.given3.ensures
+    rw (decode_load _ (sym picked.before.function-code.ensures ∙ picked.match.keys3), ← c.before.request-in2.ensures) c.given3.ensures
 
 returns-4 : tie.Need-returns-4
-unfolding zeroRules
+unfolding zero_rules
 returns-4 c =
     let picked = c.before.before in
-    rw (decode-pool _ (sym picked.before.function-code.ensures ∙ picked.match.keys4), ← c.before.get16.ensures) c.given4.ensures
+    rw (decode_pool _ (sym picked.before.function-code.ensures ∙ picked.match.keys4), ← c.before.get16.ensures) c.given4.ensures
 
 returns-5 : tie.Need-returns-5
-unfolding zeroRules
+unfolding zero_rules
 returns-5 c =
     let picked = c.before.before.before in
-    rw (decode-value _ (sym picked.before.function-code.ensures ∙ picked.match.keys5), ← c.before.byte_at.ensures, ← c.before.before.pad-is-zero.ensures) c.given5.ensures
+    rw (decode_value _ (sym picked.before.function-code.ensures ∙ picked.match.keys5), ← c.before.byte_at.ensures, ← c.before.before.pad-is-zero.ensures) c.given5.ensures
 
 returns-6 : tie.Need-returns-6
 returns-6 c =
     let zeros = c.before.before in
     let picked = zeros.before.before in
-    rw (decode-by-name _ (sym picked.before.function-code.ensures ∙ picked.match.keys6), ← zeros-by-name _ (symbolRequestOf _) zeros.before.pad-is-zero2.ensures zeros.end-is-zero.ensures, ← c.before.symbol-request-in.ensures) c.given6.ensures
+    rw (decode_by_name _ (sym picked.before.function-code.ensures ∙ picked.match.keys6), ← zeros_by_name _ (symbol_request_of _) zeros.before.pad-is-zero2.ensures zeros.end-is-zero.ensures, ← c.before.symbol-request-in.ensures) c.given6.ensures
 
 returns-7 : tie.Need-returns-7
 returns-7 c =
     let code = c.before.function-code.ensures in
     let rest = c.match.rest in
-    rw (decode-other _ (λ e. rest.0.0.0.0.0.1 (code ∙ e)) (λ e. rest.0.0.0.0.1 (code ∙ e)) (λ e. rest.0.0.0.1 (code ∙ e)) (λ e. rest.0.0.1 (code ∙ e)) (λ e. rest.0.1 (code ∙ e)) (λ e. rest.1 (code ∙ e)))
+    rw (decode_other _ (λ e. rest.0.0.0.0.0.1 (code ∙ e)) (λ e. rest.0.0.0.0.1 (code ∙ e)) (λ e. rest.0.0.0.1 (code ∙ e)) (λ e. rest.0.0.1 (code ∙ e)) (λ e. rest.0.1 (code ∙ e)) (λ e. rest.1 (code ∙ e)))
 
-pub by-code-spec : {M : Type 1} → statement M
-by-code-spec =
+pub by_code_spec : {M : Type 1} → statement M
+by_code_spec =
     tie.close
     (tie.spec
     function-code-requires

@@ -25,7 +25,7 @@ returns-3 : tie.Need-returns-3
 returns-3 c =
     let tested = c.before.before in
     let a = tested.before.before.before.args in
-    rw (eq-eqb _ _ tested.before.if1.false, sym (ap (λ (x : Bool). x && a.zeros) tested.field-rules.ensures) ∙ not-false _ c.before.if2.false, c.header-at.ensures)
+    rw (eq-eqb _ _ tested.before.if1.false, sym (ap (λ (x : Bool). x && a.zeros) tested.field-rules.ensures) ∙ not-false _ c.before.if2.false, c.header_at_lem.ensures)
 
-pub given-spec : {M : Type 1} → statement M
-given-spec = tie.close (tie.spec returns field-rules-requires returns-2 header-at-requires returns-3)
+pub given_spec : {M : Type 1} → statement M
+given_spec = tie.close (tie.spec returns field-rules-requires returns-2 header-at-requires returns-3)

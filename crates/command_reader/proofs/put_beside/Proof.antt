@@ -2,7 +2,7 @@
 -- Assumes nothing.
 use native.Mathlib.Omega.{arith}
 use mathlib.Core.Path.{refl}
-use Rattle.command_reader.proofs.Steps.{data-over-zeros}
+use Rattle.command_reader.proofs.Steps.{data_over_zeros}
 use borrow.Author.Rules.{rules}
 use Rattle.command_reader.proofs.put_beside.Statement.{statement}
 use Rattle.command_reader.proofs.put_beside.Tie as tie
@@ -76,7 +76,7 @@ returns-4 c =
     let put = load.before.before.before.before in
     let told = put.before.before in
     let tested = told.before.before in (
-      λ h. rw told.enum-told3.given.1 (data-over-zeros _ _ _ _ put.put-zeros3.ensures (load.load-words.ensures.0 (omega arith) (omega (arith, tested.if1.false)))),
+      λ h. rw told.enum-told3.given.1 (data_over_zeros _ _ _ _ put.put-zeros3.ensures (load.load_words.ensures.0 (omega arith) (omega (arith, tested.if1.false)))),
       λ s. absurd (omega (arith, tested.if1.false)),
     )
 
@@ -107,8 +107,8 @@ returns-7 c =
     let told = put.before.before in
     (λ h. rw told.enum-told6.given.1 (put.name-words2.ensures.0 h), λ s. absurd (omega (arith, told.before.before.if1.false)))
 
-pub put-beside-spec : {M : Type 1} → statement M
-put-beside-spec =
+pub put_beside_spec : {M : Type 1} → statement M
+put_beside_spec =
     tie.close
     (tie.spec
     returns

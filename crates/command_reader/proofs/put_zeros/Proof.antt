@@ -7,20 +7,20 @@ use native.Mathlib.Nat.{zero-add}
 use native.Mathlib.Omega.{arith}
 use lib.ListN.{length, take, set}
 use Rattle.lists.specs.Splice.{splice}
-use Rattle.lists.proofs.Runs.{splice-none, copy-turn}
-use Rattle.rules.specs.Ground.{noWords}
-use Rattle.rules.proofs.UsedWords.{zeros-at}
+use Rattle.lists.proofs.Runs.{splice_none, copy_turn}
+use Rattle.rules.specs.Ground.{no_words}
+use Rattle.rules.proofs.UsedWords.{zeros_at}
 use Rattle.command_reader.proofs.put_zeros.Statement.{statement}
 use Rattle.command_reader.proofs.put_zeros.Tie as tie
 
 abbrev invariant-loop : tie.invariant-loop
-invariant-loop words₀ i₀ words i = (i ≤ 12) × (words ≡ splice words₀ 0 (take i noWords)) × (length words ≡ length words₀)
+invariant-loop words₀ i₀ words i = (i ≤ 12) × (words ≡ splice words₀ 0 (take i no_words)) × (length words ≡ length words₀)
 
 abbrev decreases-loop : tie.decreases-loop
 decreases-loop words₀ i₀ words i = 12 - i
 
 loop-holds : tie.Need-loop-init invariant-loop decreases-loop
-loop-holds c = (search rules, sym (splice-none _ _), search rules)
+loop-holds c = (search rules, sym (splice_none _ _), search rules)
 
 mul_words : tie.Need-overflow-mul-words invariant-loop decreases-loop
 mul_words c = search rules
@@ -39,8 +39,8 @@ loop-again c =
     let l = c.before in
     let start = l.before in
     let i = l.loop.i in
-    let turn = rw zero-add at (copy-turn start.args.words.now l.loop.words noWords 0 i (omega arith) (omega (arith, start.requires)) l.loop.invariant.1) in
-    (search rules, ap (set l.loop.words i) (sym (zeros-at 12 i)) ∙ turn, search rules)
+    let turn = rw zero-add at (copy_turn start.args.words.now l.loop.words no_words 0 i (omega arith) (omega (arith, start.requires)) l.loop.invariant.1) in
+    (search rules, ap (set l.loop.words i) (sym (zeros_at 12 i)) ∙ turn, search rules)
 
 same_length : tie.Need-same-length invariant-loop decreases-loop
 same_length c = search rules
@@ -51,8 +51,8 @@ returns c =
     let e : l.loop.i ≡ 12 = omega arith in
     rw e at l.loop.invariant.1
 
-pub put-zeros-spec : {M : Type 1} → statement M
-put-zeros-spec =
+pub put_zeros_spec : {M : Type 1} → statement M
+put_zeros_spec =
     tie.close
     (tie.spec
     invariant-loop

@@ -14,5 +14,5 @@ words-with-requires c κs = search rules
 returns : tie.Need-returns
 returns c = read_result _ _ _ c.before.reading-of.ensures c.words-with.ensures
 
-pub read-command-spec : {M : Type 1} → statement M
-read-command-spec = tie.close (tie.spec reading-of-requires words-with-requires returns)
+pub read_command_spec : {M : Type 1} → statement M
+read_command_spec = tie.close (tie.spec reading-of-requires words-with-requires returns)

@@ -1,7 +1,7 @@
 -- `command_reader::words_with` meets its contract.
 -- Assumes nothing.
 use native.Mathlib.Omega.{arith}
-use Rattle.command_reader.proofs.Steps.{with-fields}
+use Rattle.command_reader.proofs.Steps.{with_fields}
 use borrow.Author.Rules.{rules}
 use Rattle.command_reader.proofs.words_with.Statement.{statement}
 use Rattle.command_reader.proofs.words_with.Tie as tie
@@ -24,10 +24,10 @@ returns c = search rules
 returns-2 : tie.Need-returns-2
 returns-2 c =
     let told = c.before.before.before.before in
-    with-fields told.before.before.before.args.p.now _ _ _ told.reading.given.1 (c.before.put-beside.ensures.0 (omega arith))
+    with_fields told.before.before.before.args.p.now _ _ _ told.reading.given.1 (c.before.put-beside.ensures.0 (omega arith))
 
-pub words-with-spec : {M : Type 1} → statement M
-words-with-spec =
+pub words_with_spec : {M : Type 1} → statement M
+words_with_spec =
     tie.close
     (tie.spec
     enum_told

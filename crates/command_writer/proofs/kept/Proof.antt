@@ -1,7 +1,7 @@
 -- `command_writer::kept` meets its contract.
 -- Assumes nothing.
 use native.Mathlib.Omega.{arith}
-use Rattle.command_writer.proofs.Names.{one_kept, two-kept, three-kept, all-kept}
+use Rattle.command_writer.proofs.Names.{one_kept, two_kept, three_kept, all_kept}
 use borrow.Author.Rules.{rules}
 use Rattle.command_writer.proofs.kept.Statement.{statement}
 use Rattle.command_writer.proofs.kept.Tie as tie
@@ -22,15 +22,15 @@ returns-2 : tie.Need-returns-2
 returns-2 c = rw c.match.keys2 (one_kept c.before.args.w)
 
 returns-3 : tie.Need-returns-3
-returns-3 c = rw c.match.keys3 (two-kept c.before.args.w)
+returns-3 c = rw c.match.keys3 (two_kept c.before.args.w)
 
 returns-4 : tie.Need-returns-4
-returns-4 c = rw c.match.keys4 (three-kept c.before.args.w)
+returns-4 c = rw c.match.keys4 (three_kept c.before.args.w)
 
 returns-5 : tie.Need-returns-5
-returns-5 c = all-kept c.before.args.w c.before.args.n (omega arith)
+returns-5 c = all_kept c.before.args.w c.before.args.n (omega arith)
 
-pub kept-spec : {M : Type 1} → statement M
-kept-spec =
+pub kept_spec : {M : Type 1} → statement M
+kept_spec =
     tie.close
     (tie.spec mul-result mul-result-2 mul-result-3 returns returns-2 returns-3 returns-4 returns-5)

@@ -4,7 +4,7 @@ use mathlib.Core.Path.{sym, ◌∙◌}
 use Prim.Native.Nat.{◌*◌, ◌-◌}
 use native.Mathlib.Omega.{arith}
 use lib.ListN.{get_or}
-use Rattle.command_writer.proofs.Names.{all-kept, name-part, not-given, beyond-name}
+use Rattle.command_writer.proofs.Names.{all_kept, name_part, not_given, beyond_name}
 use borrow.Author.Rules.{rules}
 use Rattle.command_writer.proofs.name_word.Statement.{statement}
 use Rattle.command_writer.proofs.name_word.Tie as tie
@@ -12,7 +12,7 @@ use Rattle.command_writer.proofs.name_word.Tie as tie
 returns : tie.Need-returns
 returns c =
     let start = c.before.before in
-    not-given start.args.n start.args.words.now start.args.i start.requires c.if1.true
+    not_given start.args.n start.args.words.now start.args.i start.requires c.if1.true
 
 mul-if2 : tie.Need-overflow-mul-if2
 mul-if2 c = search rules
@@ -30,8 +30,8 @@ returns-2 : tie.Need-returns-2
 returns-2 c =
     let start = c.before.before.before.before in
     let a = start.args in
-    all-kept (get_or a.words.now a.i 0) (a.n - 4 * a.i) (omega (arith, c.before.if2.true))
-    ∙ sym (name-part a.n a.words.now a.i start.requires)
+    all_kept (get_or a.words.now a.i 0) (a.n - 4 * a.i) (omega (arith, c.before.if2.true))
+    ∙ sym (name_part a.n a.words.now a.i start.requires)
 
 mul-if3 : tie.Need-overflow-mul-if3
 mul-if3 c = search rules
@@ -39,7 +39,7 @@ mul-if3 c = search rules
 returns-3 : tie.Need-returns-3
 returns-3 c =
     let start = c.before.before.before.before in
-    beyond-name start.args.n start.args.words.now start.args.i start.requires c.if3.true
+    beyond_name start.args.n start.args.words.now start.args.i start.requires c.if3.true
 
 mul-kept : tie.Need-overflow-mul-kept
 mul-kept c = search rules
@@ -59,10 +59,10 @@ kept-requires c κs = search rules
 returns-4 : tie.Need-returns-4
 returns-4 c =
     let start = c.before.before.before.before.before.before in
-    c.kept.ensures ∙ sym (name-part start.args.n start.args.words.now start.args.i start.requires)
+    c.kept.ensures ∙ sym (name_part start.args.n start.args.words.now start.args.i start.requires)
 
-pub name-word-spec : {M : Type 1} → statement M
-name-word-spec =
+pub name_word_spec : {M : Type 1} → statement M
+name_word_spec =
     tie.close
     (tie.spec
     returns

@@ -1,7 +1,7 @@
 -- `command_writer::put_identity` meets its contract.
 -- Assumes nothing.
 use native.Mathlib.Omega.{arith}
-use Rattle.command_writer.proofs.Steps.{half-word, identity-stores}
+use Rattle.command_writer.proofs.Steps.{half_word, identity_stores}
 use borrow.Author.Rules.{rules}
 use Rattle.command_writer.proofs.put_identity.Statement.{statement}
 use Rattle.command_writer.proofs.put_identity.Tie as tie
@@ -22,8 +22,8 @@ same_length : tie.Need-same-length
 same_length c = search rules
 
 returns : tie.Need-returns
-returns c = let a = c.args in (identity-stores a.b.now a.id c.requires.0 c.requires.1, half-word a.id c.requires.0)
+returns c = let a = c.args in (identity_stores a.b.now a.id c.requires.0 c.requires.1, half_word a.id c.requires.0)
 
-pub put-identity-spec : {M : Type 1} → statement M
-put-identity-spec =
+pub put_identity_spec : {M : Type 1} → statement M
+put_identity_spec =
     tie.close (tie.spec cast-b slice-write-b cast-b-2 slice-write-b-2 same_length returns)

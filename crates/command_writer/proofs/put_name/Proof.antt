@@ -7,20 +7,20 @@ use native.Mathlib.Omega.{arith}
 use lib.ListN.{length, take}
 use lib.Seq.{take_all}
 use Rattle.lists.specs.Splice.{splice}
-use Rattle.lists.proofs.Runs.{splice-none, splice-splice}
+use Rattle.lists.proofs.Runs.{splice_none, splice_splice}
 use Rattle.wire.specs.Bytes.{be, word_bytes}
-use Rattle.wire.specs.Xor.{xorAll}
-use Rattle.rules.specs.Packets.{nameBytes}
-use Rattle.rules.proofs.Fits.{name-length}
-use Rattle.command_writer.proofs.Names.{name-turn, third-word}
+use Rattle.wire.specs.Xor.{xor_all}
+use Rattle.rules.specs.Packets.{name_bytes}
+use Rattle.rules.proofs.Fits.{name_length}
+use Rattle.command_writer.proofs.Names.{name_turn, third_word}
 use borrow.Author.Rules.{rules}
 use Rattle.command_writer.proofs.put_name.Statement.{statement}
 use Rattle.command_writer.proofs.put_name.Tie as tie
 
 abbrev invariant-loop : tie.invariant-loop
 invariant-loop b₀ id n words third all₀ i₀ b all i =
-    (i ≤ 12) × (b ≡ splice b₀ 12 (take (4 * i) (nameBytes n words))) × (length b ≡ length b₀)
-    × (xorAll (be 4 all) ≡ xorAll (be 4 third ++ take (4 * i) (nameBytes n words)))
+    (i ≤ 12) × (b ≡ splice b₀ 12 (take (4 * i) (name_bytes n words))) × (length b ≡ length b₀)
+    × (xor_all (be 4 all) ≡ xor_all (be 4 third ++ take (4 * i) (name_bytes n words)))
 
 abbrev decreases-loop : tie.decreases-loop
 decreases-loop b₀ id n words third all₀ i₀ b all i = 12 - i
@@ -47,8 +47,8 @@ put-words-requires : tie.Need-put-words-requires invariant-loop decreases-loop
 put-words-requires c κs = search rules
 
 loop-holds : tie.Need-loop-init invariant-loop decreases-loop
-unfolding xorAll
-loop-holds c = (omega arith, sym (splice-none _ _), refl, refl)
+unfolding xor_all
+loop-holds c = (omega arith, sym (splice_none _ _), refl, refl)
 
 name-word-requires : tie.Need-name-word-requires invariant-loop decreases-loop
 name-word-requires c κs = search rules
@@ -80,11 +80,11 @@ loop-again c =
     let wide = l.before.before.before.before.before.before in
     let start = wide.before.before.before.before in
     let a = start.args in
-    let name = nameBytes a.n a.words.now in
+    let name = name_bytes a.n a.words.now in
     let third = a.id * 65536 + wide.wide32.result * 256 in
     let turn =
-    name-turn l.before.before.before.put-words.new.0 l.loop.b put.put-words2.new.0 name (be 4 third) 12 l.loop.i word.name-word.result l.loop.all word.before.loop-test.true
-    (name-length a.n a.words.now)
+    name_turn l.before.before.before.put-words.new.0 l.loop.b put.put-words2.new.0 name (be 4 third) 12 l.loop.i word.name-word.result l.loop.all word.before.loop-test.true
+    (name_length a.n a.words.now)
     (omega (arith, start.requires.1))
     word.name-word.ensures
     l.loop.invariant.1
@@ -104,20 +104,20 @@ returns-2 c =
     let wide = put.before.before.before in
     let start = wide.before.before.before.before in
     let a = start.args in
-    let name = nameBytes a.n a.words.now in
-    let n = name-length a.n a.words.now in
+    let name = name_bytes a.n a.words.now in
+    let n = name_length a.n a.words.now in
     let all : take (4 * l.loop.i) name ≡ name = take_all (4 * l.loop.i) name (omega arith) in
-    let third = third-word a.id a.n wide.wide32.result wide.wide32.ensures.0 (omega arith) name in
+    let third = third_word a.id a.n wide.wide32.result wide.wide32.ensures.0 (omega arith) name in
     let front = be 4 (a.id * 65536 + wide.wide32.result * 256) in (
       rw all at l.loop.invariant.1
           ∙ ap (λ (b : List ℕ). splice b 12 name) (put.put-words.ensures.0 (omega arith))
-          ∙ splice-splice a.b.now front name 8 12 refl (omega arith)
+          ∙ splice_splice a.b.now front name 8 12 refl (omega arith)
           ∙ ap (splice a.b.now 8) third,
-      rw all at l.loop.invariant.3 ∙ ap xorAll third,
+      rw all at l.loop.invariant.3 ∙ ap xor_all third,
     )
 
-pub put-name-spec : {M : Type 1} → statement M
-put-name-spec =
+pub put_name_spec : {M : Type 1} → statement M
+put_name_spec =
     tie.close
     (tie.spec
     invariant-loop

@@ -5,8 +5,8 @@ use native.Mathlib.Omega.{arith}
 use mathlib.Core.Path.{ap, ◌∙◌}
 use Rattle.lists.specs.Splice.{splice}
 use Rattle.wire.specs.Bytes.{word_bytes}
-use Rattle.wire.specs.Xor.{xorAll}
-use Rattle.wire.proofs.Numbers.{two-halves}
+use Rattle.wire.specs.Xor.{xor_all}
+use Rattle.wire.proofs.Numbers.{two_halves}
 use borrow.Author.Rules.{rules}
 use Rattle.command_writer.proofs.put_pool.Statement.{statement}
 use Rattle.command_writer.proofs.put_pool.Tie as tie
@@ -31,10 +31,10 @@ unfolding word_bytes
 returns c =
     let put = c.before.before in
     let a = put.before.before.before.before.args in
-    let e = two-halves a.id a.pool (omega arith) [] in
-    (put.put-words.ensures.0 (omega arith) ∙ ap (splice a.b.now 8) e, ap xorAll e)
+    let e = two_halves a.id a.pool (omega arith) [] in
+    (put.put-words.ensures.0 (omega arith) ∙ ap (splice a.b.now 8) e, ap xor_all e)
 
-pub put-pool-spec : {M : Type 1} → statement M
-put-pool-spec =
+pub put_pool_spec : {M : Type 1} → statement M
+put_pool_spec =
     tie.close
     (tie.spec mul-third add-third slice-aggregate-put-words put-words-requires same_length returns)

@@ -6,8 +6,8 @@ use mathlib.Core.List.{[], ◌++◌}
 use Prim.Native.Nat.{◌+◌, ◌*◌}
 use Rattle.lists.specs.Splice.{splice}
 use Rattle.wire.specs.Bytes.{be, word_bytes}
-use Rattle.wire.specs.Xor.{xorAll}
-use Rattle.wire.proofs.Numbers.{two-halves}
+use Rattle.wire.specs.Xor.{xor_all}
+use Rattle.wire.proofs.Numbers.{two_halves}
 use Rattle.command_writer.proofs.Steps.{both_words}
 use borrow.Author.Rules.{rules}
 use Rattle.command_writer.proofs.put_request.Statement.{statement}
@@ -38,13 +38,13 @@ returns c =
     let a = put.before.before.before.before.before.args in
     let third = a.id * 65536 + a.q.size in
     let address = a.q.address.0 in
-    let e = two-halves a.id a.q.size (omega arith) (be 4 address) in (
+    let e = two_halves a.id a.q.size (omega arith) (be 4 address) in (
       put.put-words.ensures.0 (omega arith) ∙ ap (splice a.b.now 8) e,
-      both_words third address (be 4 third) (be 4 address) refl refl ∙ ap xorAll e,
+      both_words third address (be 4 third) (be 4 address) refl refl ∙ ap xor_all e,
     )
 
-pub put-request-spec : {M : Type 1} → statement M
-put-request-spec =
+pub put_request_spec : {M : Type 1} → statement M
+put_request_spec =
     tie.close
     (tie.spec
     mul-third

@@ -2,8 +2,8 @@
 -- Assumes nothing.
 use native.Mathlib.Omega.{arith}
 use mathlib.Core.Path.{ap}
-use Rattle.rules.specs.Packets.{packetLength}
-use Rattle.command_writer.proofs.Steps.{load-written}
+use Rattle.rules.specs.Packets.{packet_length}
+use Rattle.command_writer.proofs.Steps.{load_written}
 use borrow.Author.Rules.{rules}
 use Rattle.command_writer.proofs.put_rest.Statement.{statement}
 use Rattle.command_writer.proofs.put_rest.Tie as tie
@@ -15,7 +15,7 @@ put-request-requires : tie.Need-put-request-requires
 put-request-requires c κs =
     let told = c.before.before in
     let start = told.before.before.before.before in
-    let e = ap packetLength told.k.given.1 in
+    let e = ap packet_length told.k.given.1 in
     (start.requires.0, omega (arith, start.requires.1))
 
 enum_told : tie.Need-enum-told
@@ -25,7 +25,7 @@ put-identity-requires : tie.Need-put-identity-requires
 put-identity-requires c κs =
     let told = c.before in
     let start = told.before.before.before.before in
-    let e = ap packetLength told.enum_told.given.1 in
+    let e = ap packet_length told.enum_told.given.1 in
     (start.requires.0, omega (arith, start.requires.1))
 
 enum-known-k-2 : tie.Need-enum-known-k-2
@@ -35,14 +35,14 @@ put-request-requires-2 : tie.Need-put-request-requires-2
 put-request-requires-2 c κs =
     let told = c.before.before in
     let start = told.before.before.before.before in
-    let e = ap packetLength told.k2.given.1 in
+    let e = ap packet_length told.k2.given.1 in
     (start.requires.0, omega (arith, start.requires.1))
 
 put-data-requires : tie.Need-put-data-requires
 put-data-requires c κs =
     let told = c.before.before.before.before.before.before in
     let start = told.before.before.before.before in
-    let e = ap packetLength told.k2.given.1 in
+    let e = ap packet_length told.k2.given.1 in
     omega (arith, start.requires.1)
 
 enum-known-k-3 : tie.Need-enum-known-k-3
@@ -52,7 +52,7 @@ put-pool-requires : tie.Need-put-pool-requires
 put-pool-requires c κs =
     let told = c.before.before in
     let start = told.before.before.before.before in
-    let e = ap packetLength told.k3.given.1 in
+    let e = ap packet_length told.k3.given.1 in
     (start.requires.0, omega (arith, start.requires.1))
 
 enum-known-k-4 : tie.Need-enum-known-k-4
@@ -62,7 +62,7 @@ put-name-requires : tie.Need-put-name-requires
 put-name-requires c κs =
     let told = c.before.before in
     let start = told.before.before.before.before in
-    let e = ap packetLength told.k4.given.1 in
+    let e = ap packet_length told.k4.given.1 in
     (start.requires.0, omega (arith, start.requires.1))
 
 enum-known-k-5 : tie.Need-enum-known-k-5
@@ -72,7 +72,7 @@ put-symbol-request-requires : tie.Need-put-symbol-request-requires
 put-symbol-request-requires c κs =
     let told = c.before.before in
     let start = told.before.before.before.before in
-    let e = ap packetLength told.k5.given.1 in
+    let e = ap packet_length told.k5.given.1 in
     (start.requires.0, omega (arith, start.requires.1))
 
 same_length : tie.Need-same-length
@@ -96,9 +96,9 @@ returns-3 c =
     let request = words.before.before.before.before in
     let told = request.before.before.before in
     let start = told.before.before.before.before in
-    let e = ap packetLength told.k2.given.1 in
+    let e = ap packet_length told.k2.given.1 in
     rw told.k2.given.1
-    (load-written start.args.b.now _ _ start.args.id _ start.args.words.now _ _ (omega (arith, start.requires.1)) request.put-request2.ensures.0
+    (load_written start.args.b.now _ _ start.args.id _ start.args.words.now _ _ (omega (arith, start.requires.1)) request.put-request2.ensures.0
     words.put-data.ensures.0
     request.put-request2.ensures.1
     words.put-data.ensures.1)
@@ -121,8 +121,8 @@ same-length-6 c = search rules
 returns-6 : tie.Need-returns-6
 returns-6 c = rw c.before.before.before.before.before.k5.given.1 c.before.before.put-symbol-request.ensures
 
-pub put-rest-spec : {M : Type 1} → statement M
-put-rest-spec =
+pub put_rest_spec : {M : Type 1} → statement M
+put_rest_spec =
     tie.close
     (tie.spec
     enum-known-k

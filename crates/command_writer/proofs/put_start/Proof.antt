@@ -1,7 +1,7 @@
 -- `command_writer::put_start` meets its contract.
 -- Assumes nothing.
 use native.Mathlib.Omega.{arith}
-use Rattle.command_writer.proofs.Steps.{start-written}
+use Rattle.command_writer.proofs.Steps.{start_written}
 use borrow.Author.Rules.{rules}
 use Rattle.command_writer.proofs.put_start.Statement.{statement}
 use Rattle.command_writer.proofs.put_start.Tie as tie
@@ -58,12 +58,12 @@ returns c =
     let folded = check.before in
     let code = folded.before in
     let a = code.before.before.args in
-    start-written a.count a.code a.n (omega arith) c.before.before.before.before.before.before.before.before.before.requires.0 code.wide32.result folded.xor-word.result check.wide322.result a.rest
+    start_written a.count a.code a.n (omega arith) c.before.before.before.before.before.before.before.before.before.requires.0 code.wide32.result folded.xor-word.result check.wide322.result a.rest
     code.wide32.ensures.0 folded.xor-word.ensures check.wide322.ensures.0 check.wide322.ensures.1 a.b.now put.put-words.new.0
     (put.put-words.ensures.0 (omega arith))
 
-pub put-start-spec : {M : Type 1} → statement M
-put-start-spec =
+pub put_start_spec : {M : Type 1} → statement M
+put_start_spec =
     tie.close
     (tie.spec
     mul-first

@@ -1,7 +1,7 @@
 -- `command_writer::put_symbol_request` meets its contract.
 -- Assumes nothing.
 use native.Mathlib.Omega.{arith}
-use Rattle.command_writer.proofs.Names.{symbol-written}
+use Rattle.command_writer.proofs.Names.{symbol_written}
 use borrow.Author.Rules.{rules}
 use Rattle.command_writer.proofs.put_symbol_request.Statement.{statement}
 use Rattle.command_writer.proofs.put_symbol_request.Tie as tie
@@ -30,12 +30,12 @@ returns c =
     let name = put.before.before.before.before.before.before in
     let start = name.before.before.before.before in
     let a = start.args in
-    symbol-written a.b.now name.put-name.new.0 put.put-words.new.0 a.id a.q a.words.now name.put-name.result start.requires.1 name.put-name.ensures.0
+    symbol_written a.b.now name.put-name.new.0 put.put-words.new.0 a.id a.q a.words.now name.put-name.result start.requires.1 name.put-name.ensures.0
     (put.put-words.ensures.0 (omega arith))
     name.put-name.ensures.1
 
-pub put-symbol-request-spec : {M : Type 1} → statement M
-put-symbol-request-spec =
+pub put_symbol_request_spec : {M : Type 1} → statement M
+put_symbol_request_spec =
     tie.close
     (tie.spec
     put-name-requires

@@ -1,7 +1,7 @@
 -- `command_writer::write_packet` meets its contract: 3, 9 or the packet, each by its law in proofs/Steps.antt.
 -- Assumes nothing.
 use native.Mathlib.Omega.{arith}
-use Rattle.command_writer.proofs.Steps.{rules-fail, rules-hold, rest-fits, start_fits, too_short, bad-field, packet-written}
+use Rattle.command_writer.proofs.Steps.{rules_fail, rules_hold, rest_fits, start_fits, too_short, bad_field, packet_written}
 use borrow.Author.Rules.{rules}
 use Rattle.command_writer.proofs.write_packet.Statement.{statement}
 use Rattle.command_writer.proofs.write_packet.Tie as tie
@@ -10,7 +10,7 @@ packet-length-requires : tie.Need-packet-length-requires
 packet-length-requires c κs = search rules
 
 returns : tie.Need-returns
-returns c = too_short _ _ _ c.before.packet-length.ensures _ _ c.if1.true
+returns c = too_short _ _ _ c.before.packet_length_lem.ensures _ _ c.if1.true
 
 header-rules-requires : tie.Need-header-rules-requires
 header-rules-requires c κs = search rules
@@ -22,8 +22,8 @@ returns-2 : tie.Need-returns-2
 returns-2 c =
     let fields = c.before in
     let header = fields.before in
-    bad-field _ _ _ header.before.before.packet-length.ensures _ _ header.before.if1.false
-    (rules-fail _ _ _ _ header.header-rules.ensures fields.field-rules.ensures c.if2.true)
+    bad_field _ _ _ header.before.before.packet_length_lem.ensures _ _ header.before.if1.false
+    (rules_fail _ _ _ _ header.header-rules.ensures fields.field-rules.ensures c.if2.true)
 
 wide32-requires : tie.Need-wide32-requires
 wide32-requires c κs = search rules
@@ -44,8 +44,8 @@ put-rest-requires c κs =
     let fields = passed.before in
     let header = fields.before in
     let length = header.before.before in (
-      rest-fits _ _ (rules-hold _ _ _ _ header.header-rules.ensures fields.field-rules.ensures passed.if2.false) _ unit.wide32.ensures.0,
-      omega (arith, length.packet-length.ensures, header.before.if1.false),
+      rest_fits _ _ (rules_hold _ _ _ _ header.header-rules.ensures fields.field-rules.ensures passed.if2.false) _ unit.wide32.ensures.0,
+      omega (arith, length.packet_length_lem.ensures, header.before.if1.false),
     )
 
 code-of-requires : tie.Need-code-of-requires
@@ -58,8 +58,8 @@ put-start-requires c κs =
     let header = fields.before in
     let length = header.before.before in
     let fits =
-    start_fits _ _ _ length.packet-length.ensures
-    (rules-hold _ _ _ _ header.header-rules.ensures fields.field-rules.ensures passed.if2.false)
+    start_fits _ _ _ length.packet_length_lem.ensures
+    (rules_hold _ _ _ _ header.header-rules.ensures fields.field-rules.ensures passed.if2.false)
     in
     (fits.0, fits.1, fits.2, omega (arith, fits.3, header.before.if1.false))
 
@@ -76,14 +76,14 @@ returns-3 c =
     let fields = passed.before in
     let header = fields.before in
     let length = header.before.before in
-    let rules = rules-hold _ _ _ _ header.header-rules.ensures fields.field-rules.ensures passed.if2.false in
-    packet-written _ _ _ length.packet-length.ensures _ _ header.before.if1.false _ unit.wide32.ensures.0 _ _ code.code_of_lem.ensures rules _ _
+    let rules = rules_hold _ _ _ _ header.header-rules.ensures fields.field-rules.ensures passed.if2.false in
+    packet_written _ _ _ length.packet_length_lem.ensures _ _ header.before.if1.false _ unit.wide32.ensures.0 _ _ code.code_of_lem.ensures rules _ _
     rest.put_rest.ensures.0
     rest.put_rest.ensures.1
     start.put-start.ensures
 
-pub write-packet-spec : {M : Type 1} → statement M
-write-packet-spec =
+pub write_packet_spec : {M : Type 1} → statement M
+write_packet_spec =
     tie.close
     (tie.spec
     packet-length-requires

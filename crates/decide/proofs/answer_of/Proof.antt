@@ -40,8 +40,8 @@ returns-5 c = rw c.enum-told4.given.1
 returns-6 : tie.Need-returns-6
 returns-6 c = rw c.enum-told5.given.1
 
-pub answer-of-spec : {M : Type 1} → statement M
-answer-of-spec =
+pub answer_of_spec : {M : Type 1} → statement M
+answer_of_spec =
     tie.close
     (tie.spec
     enum-known-d

@@ -10,5 +10,5 @@ returns c = rw (le-leb _ _ c.if1.true)
 returns-2 : tie.Need-returns-2
 returns-2 c = rw (lt-leb _ _ c.if1.false)
 
-pub cancel-spec : {M : Type 1} → statement M
-cancel-spec = tie.close (tie.spec returns returns-2)
+pub cancel_spec : {M : Type 1} → statement M
+cancel_spec = tie.close (tie.spec returns returns-2)

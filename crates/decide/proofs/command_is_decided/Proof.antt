@@ -7,5 +7,5 @@ use Rattle.decide.proofs.command_is_decided.Tie as tie
 returns : tie.Need-returns
 returns c = decided
 
-pub command-is-decided-spec : {M : Type 1} → statement M
-command-is-decided-spec = tie.close (tie.spec returns)
+pub command_is_decided_spec : {M : Type 1} → statement M
+command_is_decided_spec = tie.close (tie.spec returns)

@@ -44,7 +44,7 @@ returns-6 c =
     let right = not-false at-found.found.given.0.0.dump c.before.before.if1.false in
     rw (at-found.found.given.1, right, le-ltb _ _ c.before.if2.false, lt-leb _ _ c.if3.false)
 
-pub dump-spec : {M : Type 1} → statement M
-dump-spec =
+pub dump_spec : {M : Type 1} → statement M
+dump_spec =
     tie.close
     (tie.spec enum_told enum-told-2 enum-known-found returns returns-2 returns-3 returns-4 returns-5 returns-6)

@@ -118,8 +118,8 @@ returns-18 c = rw c.enum-told18.given.1
 returns-19 : tie.Need-returns-19
 returns-19 c = rw c.enum-told19.given.1
 
-pub is-counted-spec : {M : Type 1} → statement M
-is-counted-spec =
+pub is_counted_spec : {M : Type 1} → statement M
+is_counted_spec =
     tie.close
     (tie.spec
     enum_told

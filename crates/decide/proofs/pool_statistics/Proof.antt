@@ -1,7 +1,7 @@
 -- `decide::pool_statistics` meets its contract.
 -- Assumes nothing.
 use borrow.Author.Tests.{eq-eqb, ne_eqb}
-use Rattle.opening.proofs.Facts.{words-cut}
+use Rattle.opening.proofs.Facts.{words_cut}
 use borrow.Author.Rules.{rules}
 use Rattle.decide.proofs.pool_statistics.Statement.{statement}
 use Rattle.decide.proofs.pool_statistics.Tie as tie
@@ -43,17 +43,17 @@ returns-4 : tie.Need-returns-4
 returns-4 c =
     let words = c.before.before.before in
     let found = words.before.before in
-    rw (ne_eqb _ _ found.before.before.if1.false, found.enum-told3.given.1, ← words-cut _ _ _ words.words-at.ensures, ← c.before.before.walk-pool.ensures, c.enum-told4.given.1)
+    rw (ne_eqb _ _ found.before.before.if1.false, found.enum-told3.given.1, ← words_cut _ _ _ words.words_at_lem.ensures, ← c.before.before.walk-pool.ensures, c.enum-told4.given.1)
 
 returns-5 : tie.Need-returns-5
 returns-5 c =
     let walked = c.before.before.before in
     let words = walked.before in
     let found = words.before.before in
-    rw (ne_eqb _ _ found.before.before.if1.false, found.enum-told3.given.1, ← words-cut _ _ _ words.words-at.ensures, ← walked.walk-pool.ensures, c.before.walked.given.1)
+    rw (ne_eqb _ _ found.before.before.if1.false, found.enum-told3.given.1, ← words_cut _ _ _ words.words_at_lem.ensures, ← walked.walk-pool.ensures, c.before.walked.given.1)
 
-pub pool-statistics-spec : {M : Type 1} → statement M
-pool-statistics-spec =
+pub pool_statistics_spec : {M : Type 1} → statement M
+pool_statistics_spec =
     tie.close
     (tie.spec
     returns

@@ -1,6 +1,6 @@
 -- `decide::write_out` meets its contract.
 -- Assumes nothing.
-use Rattle.decide.proofs.Facts.{words-stored, reply-put}
+use Rattle.decide.proofs.Facts.{words_stored, reply_put}
 use borrow.Author.Rules.{rules}
 use Rattle.decide.proofs.write_out.Statement.{statement}
 use Rattle.decide.proofs.write_out.Tie as tie
@@ -45,22 +45,22 @@ same_length : tie.Need-same-length
 same_length c = search rules
 
 returns-4 : tie.Need-returns-4
-returns-4 c = (rw c.before.before.before.before.before.before.d.given.1 (words-stored _ _ _ _ c.before.before.store_words_lem.ensures), rw c.before.before.before.before.before.before.d.given.1)
+returns-4 c = (rw c.before.before.before.before.before.before.d.given.1 (words_stored _ _ _ _ c.before.before.store_words_lem.ensures), rw c.before.before.before.before.before.before.d.given.1)
 
 same-length-2 : tie.Need-same-length-2
 same-length-2 c = search rules
 
 returns-5 : tie.Need-returns-5
-returns-5 c = (rw c.before.before.before.before.before.before.before.d2.given.1, rw c.before.before.before.before.before.before.before.d2.given.1 (reply-put _ _ _ c.before.before.put-reply.ensures))
+returns-5 c = (rw c.before.before.before.before.before.before.before.d2.given.1, rw c.before.before.before.before.before.before.before.d2.given.1 (reply_put _ _ _ c.before.before.put-reply.ensures))
 
 same-length-3 : tie.Need-same-length-3
 same-length-3 c = search rules
 
 returns-6 : tie.Need-returns-6
-returns-6 c = (rw c.before.before.before.before.before.before.d3.given.1, rw c.before.before.before.before.before.before.d3.given.1 (reply-put _ _ _ c.before.before.put-value.ensures))
+returns-6 c = (rw c.before.before.before.before.before.before.d3.given.1, rw c.before.before.before.before.before.before.d3.given.1 (reply_put _ _ _ c.before.before.put-value.ensures))
 
-pub write-out-spec : {M : Type 1} → statement M
-write-out-spec =
+pub write_out_spec : {M : Type 1} → statement M
+write_out_spec =
     tie.close
     (tie.spec
     enum_told

@@ -44,8 +44,8 @@ array-write-image-3 c = search rules
 returns : tie.Need-returns invariant-loop decreases-loop
 returns c = search rules
 
-pub memory-spec : {M : Type 1} → statement M
-memory-spec =
+pub memory_spec : {M : Type 1} → statement M
+memory_spec =
     tie.close
     (tie.spec
     invariant-loop

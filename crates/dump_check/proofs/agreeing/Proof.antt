@@ -1,7 +1,7 @@
 -- `dump_check::agreeing` meets its contract.
 -- Assumes nothing.
 use borrow.Author.Rules.{rules}
-use Rattle.dump_check.proofs.Pieces.{agree-is}
+use Rattle.dump_check.proofs.Pieces.{agree_is}
 use Rattle.dump_check.proofs.agreeing.Statement.{statement}
 use Rattle.dump_check.proofs.agreeing.Tie as tie
 
@@ -32,10 +32,10 @@ returns c =
     let h = g.before in
     let a = h.before.before.before.args in
     rw (h.read16.ensures, g.read162.ensures, f.read32.ensures, e.read322.ensures, d.read323.ensures, c.read324.ensures)
-    (agree-is a.p.now a.q.now)
+    (agree_is a.p.now a.q.now)
 
-pub agreeing-spec : {M : Type 1} → statement M
-agreeing-spec =
+pub agreeing_spec : {M : Type 1} → statement M
+agreeing_spec =
     tie.close
     (tie.spec
     read16-requires

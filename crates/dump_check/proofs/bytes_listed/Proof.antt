@@ -5,18 +5,18 @@ use Prim.Native.Nat.{◌+◌, ◌*◌, ◌-◌, ◌≤◌}
 use native.Mathlib.Omega.{arith}
 use borrow.Author.Rules.{rules}
 use Rattle.lists.proofs.Below.{sum_more}
-use Rattle.whole_dump.specs.Check.{length_at, bytesBefore}
+use Rattle.whole_dump.specs.Check.{length_at, bytes_before}
 use Rattle.dump_check.proofs.bytes_listed.Statement.{statement}
 use Rattle.dump_check.proofs.bytes_listed.Tie as tie
 
 abbrev invariant-loop : tie.invariant-loop
-invariant-loop lengths n total₀ i₀ total i = (i ≤ n) × (total ≡ bytesBefore lengths i) × (total ≤ 65535 * i)
+invariant-loop lengths n total₀ i₀ total i = (i ≤ n) × (total ≡ bytes_before lengths i) × (total ≤ 65535 * i)
 
 abbrev decreases-loop : tie.decreases-loop
 decreases-loop lengths n total₀ i₀ total i = n - i
 
 loop-holds : tie.Need-loop-init invariant-loop decreases-loop
-unfolding bytesBefore
+unfolding bytes_before
 loop-holds c = (search rules, refl, search rules)
 
 mul-read16 : tie.Need-overflow-mul-read16 invariant-loop decreases-loop
@@ -38,7 +38,7 @@ loop-less : tie.Need-loop-smaller invariant-loop decreases-loop
 loop-less c = search rules
 
 loop-again : tie.Need-loop-preserved invariant-loop decreases-loop
-unfolding bytesBefore
+unfolding bytes_before
 loop-again c =
     let l = c.before.before in
     let lengths = l.before.before.args.lengths.now in
@@ -53,8 +53,8 @@ returns c =
     let e : l.loop.i ≡ l.before.before.args.n = omega arith in
     rw e at l.loop.invariant.1
 
-pub bytes-listed-spec : {M : Type 1} → statement M
-bytes-listed-spec =
+pub bytes_listed_spec : {M : Type 1} → statement M
+bytes_listed_spec =
     tie.close
     (tie.spec
     invariant-loop

@@ -8,13 +8,13 @@ use lib.Dec.{eqb}
 use lib.ListN.{get_or}
 use borrow.Author.Rules.{rules}
 use borrow.Author.Tests.{eq-eqb, ne_eqb}
-use Rattle.lists.specs.Below.{anyBelow}
-use Rattle.lists.proofs.Below.{first-is, first-none, none-at, none_more}
+use Rattle.lists.specs.Below.{any_below}
+use Rattle.lists.proofs.Below.{first_is, first_none, none_at, none_more}
 use Rattle.dump_check.proofs.first_unmarked.Statement.{statement}
 use Rattle.dump_check.proofs.first_unmarked.Tie as tie
 
 abbrev invariant-loop : tie.invariant-loop
-invariant-loop seen m k₀ k = (k ≤ m) × (anyBelow (λ j. eqb (get_or seen j 0) 0) k ≡ false)
+invariant-loop seen m k₀ k = (k ≤ m) × (any_below (λ j. eqb (get_or seen j 0) 0) k ≡ false)
 
 abbrev decreases-loop : tie.decreases-loop
 decreases-loop seen m k₀ k = m - k
@@ -31,8 +31,8 @@ returns c =
     let l = t.before in
     let a = l.before.args in
     sym
-    (first-is (λ j. eqb (get_or a.seen.now j 0) 0) a.m t.loop-test.true (eq-eqb _ _ c.if1.true)
-    (λ j h. none-at _ l.loop.k l.loop.invariant.1 h))
+    (first_is (λ j. eqb (get_or a.seen.now j 0) 0) a.m t.loop-test.true (eq-eqb _ _ c.if1.true)
+    (λ j h. none_at _ l.loop.k l.loop.invariant.1 h))
 
 add-k : tie.Need-overflow-add-k invariant-loop decreases-loop
 add-k c = search rules
@@ -49,10 +49,10 @@ returns-2 : tie.Need-returns-2 invariant-loop decreases-loop
 returns-2 c =
     let l = c.before in
     let e : l.loop.k ≡ l.before.args.m = omega arith in
-    sym (first-none (λ j. eqb (get_or l.before.args.seen.now j 0) 0) l.before.args.m (rw e at l.loop.invariant.1))
+    sym (first_none (λ j. eqb (get_or l.before.args.seen.now j 0) 0) l.before.args.m (rw e at l.loop.invariant.1))
 
-pub first-unmarked-spec : {M : Type 1} → statement M
-first-unmarked-spec =
+pub first_unmarked_spec : {M : Type 1} → statement M
+first_unmarked_spec =
     tie.close
     (tie.spec
     invariant-loop

@@ -30,5 +30,5 @@ returns-3 c =
     let n = length t.before.before.before.before.args.lengths.now in
     rw (eq-eqb (n % 2) 0 t.before.if1.false, le-ltb 65 (n / 2) t.if2.false, c.bytes-listed.ensures)
 
-pub is-unfit-spec : {M : Type 1} → statement M
-is-unfit-spec = tie.close (tie.spec returns returns-2 bytes-listed-requires returns-3)
+pub is_unfit_spec : {M : Type 1} → statement M
+is_unfit_spec = tie.close (tie.spec returns returns-2 bytes-listed-requires returns-3)

@@ -6,8 +6,8 @@ use native.Mathlib.Omega.{arith}
 use lib.ListN.{length}
 use borrow.Author.Rules.{rules}
 use borrow.Author.Tests.{not-true, not-false}
-use Rattle.packet_reader.proofs.Steps.{accepted-long}
-use Rattle.dump_check.proofs.Pieces.{data-after, refused-piece, accepted-read, other-piece, own-piece}
+use Rattle.packet_reader.proofs.Steps.{accepted_long}
+use Rattle.dump_check.proofs.Pieces.{data_after, refused_piece, accepted_read, other_piece, own_piece}
 use Rattle.dump_check.proofs.piece_in.Statement.{statement}
 use Rattle.dump_check.proofs.piece_in.Tie as tie
 
@@ -21,14 +21,14 @@ returns : tie.Need-returns
 returns c =
     let v = c.before.before in
     let a = v.before.before.before.args in
-    refused-piece a.p.now _ v.packet-verdict.ensures a.first.now _ c.enum_told.given.1
+    refused_piece a.p.now _ v.packet-verdict.ensures a.first.now _ c.enum_told.given.1
 
 enum-told-2 : tie.Need-enum-told-2
 enum-told-2 c = search rules
 
 -- an accepted packet has its header
 long : (c : tie.After-enum-told2) → 28 ≤ length c.before.before.before.before.before.args.p.now
-long c = accepted-long _ _ c.before.before.packet-verdict.ensures c.enum-told2.given.1
+long c = accepted_long _ _ c.before.before.packet-verdict.ensures c.enum-told2.given.1
 
 agreeing-requires : tie.Need-agreeing-requires
 agreeing-requires c κs = let l = long c in search rules
@@ -38,7 +38,7 @@ returns-2 c =
     let m = c.before.before in
     let v = m.before.before in
     let a = v.before.before.before.args in
-    other-piece a.p.now _ v.packet-verdict.ensures a.first.now m.enum-told2.given.1
+    other_piece a.p.now _ v.packet-verdict.ensures a.first.now m.enum-told2.given.1
     (sym c.before.agreeing.ensures ∙ not-true _ c.if1.true)
 
 read32-requires : tie.Need-read32-requires
@@ -52,7 +52,7 @@ sub-result c =
     let m = c.before.before.before.before in
     let v = m.before.before in
     let p = v.before.before.before.args.p.now in
-    let h = data-after p (accepted-read p _ v.packet-verdict.ensures m.enum-told2.given.1) in
+    let h = data_after p (accepted_read p _ v.packet-verdict.ensures m.enum-told2.given.1) in
     omega arith
 
 cast-result : tie.Need-overflow-cast-result
@@ -65,11 +65,11 @@ returns-3 c =
     let v = m.before.before in
     let a = v.before.before.before.args in
     ap₂ (λ x y. (x - y) / 4 / 1016) c.before.read32.ensures c.read322.ensures
-    ∙ own-piece a.p.now _ v.packet-verdict.ensures a.first.now m.enum-told2.given.1
+    ∙ own_piece a.p.now _ v.packet-verdict.ensures a.first.now m.enum-told2.given.1
     (sym i.before.agreeing.ensures ∙ not-false _ i.if1.false)
 
-pub piece-in-spec : {M : Type 1} → statement M
-piece-in-spec =
+pub piece_in_spec : {M : Type 1} → statement M
+piece_in_spec =
     tie.close
     (tie.spec
     packet-verdict-requires

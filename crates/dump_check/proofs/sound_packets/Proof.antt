@@ -6,17 +6,17 @@ use Prim.Native.Nat.{◌+◌, ◌-◌, ◌≤◌}
 use native.Mathlib.Omega.{arith}
 use lib.ListN.{length, length-take, length-drop}
 use borrow.Author.Rules.{rules}
-use Rattle.lists.specs.Below.{anyBelow}
-use Rattle.lists.proofs.Below.{first-none, none_more, sum_more}
-use Rattle.whole_dump.specs.Check.{packetCount, length_at, bytesBefore, packetAt, isBad, firstBad}
-use Rattle.dump_check.specs.Marks.{pieceIn, Marked}
-use Rattle.dump_check.proofs.Walk.{packet-is, bad-end, bad-past, bad-no-piece, bad-marked, sound-unmarked, marked_more, marked-none}
+use Rattle.lists.specs.Below.{any_below}
+use Rattle.lists.proofs.Below.{first_none, none_more, sum_more}
+use Rattle.whole_dump.specs.Check.{packet_count, length_at, bytes_before, packet_at, is_bad, first_bad}
+use Rattle.dump_check.specs.Marks.{piece_in, Marked}
+use Rattle.dump_check.proofs.Walk.{packet_is, bad_end, bad_past, bad_no_piece, bad_marked, sound_unmarked, marked_more, marked_none}
 use Rattle.dump_check.proofs.sound_packets.Statement.{statement}
 use Rattle.dump_check.proofs.sound_packets.Tie as tie
 
 abbrev invariant-loop : tie.invariant-loop
 invariant-loop bytes lengths seen₀ n at₀ i₀ seen at i =
-    (i ≤ n) × (at ≡ bytesBefore lengths i) × (at ≤ length bytes) × (anyBelow (isBad bytes lengths) i ≡ false) × Marked bytes lengths i seen
+    (i ≤ n) × (at ≡ bytes_before lengths i) × (at ≤ length bytes) × (any_below (is_bad bytes lengths) i ≡ false) × Marked bytes lengths i seen
 
 abbrev decreases-loop : tie.decreases-loop
 decreases-loop bytes lengths seen₀ n at₀ i₀ seen at i = n - i
@@ -33,36 +33,36 @@ ended : (c : tie.In-loop invariant-loop decreases-loop)
     → let l = c.before in
     let b = (start l).args.bytes.now in
     let ls = (start l).args.lengths.now in
-    isBad b ls l.loop.i ≡ true → (l.loop.i ≡ firstBad b ls) × Marked b ls l.loop.i l.loop.seen
+    is_bad b ls l.loop.i ≡ true → (l.loop.i ≡ first_bad b ls) × Marked b ls l.loop.i l.loop.seen
 ended c bad =
     let l = c.before in
     let a = (start l).args in
-    (bad-end a.bytes.now a.lengths.now l.loop.i l.loop.invariant.3 c.loop-test.true bad, l.loop.invariant.4)
+    (bad_end a.bytes.now a.lengths.now l.loop.i l.loop.invariant.3 c.loop-test.true bad, l.loop.invariant.4)
 
 -- packet i is within the bytes
 inside : (c : tie.Else1 invariant-loop decreases-loop)
     → let l = c.before.before.before in
     let a = (start l).args in
-    bytesBefore a.lengths.now l.loop.i + length_at a.lengths.now l.loop.i ≤ length a.bytes.now
+    bytes_before a.lengths.now l.loop.i + length_at a.lengths.now l.loop.i ≤ length a.bytes.now
 inside c = let e = c.before.read16.ensures in omega arith
 
 -- its piece
 piece : (c : tie.After-piece-in invariant-loop decreases-loop)
     → let l = c.before.before.before.before.before in
     let a = (start l).args in
-    c.piece-in.result ≡ pieceIn a.bytes.now (packetAt a.bytes.now a.lengths.now l.loop.i)
+    c.piece-in.result ≡ piece_in a.bytes.now (packet_at a.bytes.now a.lengths.now l.loop.i)
 piece c =
     let r = c.before.before.before in
     let l = r.before.before in
     let a = (start l).args in
     c.piece-in.ensures
-    ∙ ap (pieceIn a.bytes.now) (packet-is a.bytes.now a.lengths.now l.loop.i _ _ l.loop.invariant.1 r.read16.ensures)
+    ∙ ap (piece_in a.bytes.now) (packet_is a.bytes.now a.lengths.now l.loop.i _ _ l.loop.invariant.1 r.read16.ensures)
 
 loop-holds : tie.Need-loop-init invariant-loop decreases-loop
-unfolding bytesBefore
+unfolding bytes_before
 loop-holds c =
     let s = c.before.before.before in
-    (search rules, refl, search rules, refl, rw s.requires.1 (marked-none s.args.bytes.now s.args.lengths.now))
+    (search rules, refl, search rules, refl, rw s.requires.1 (marked_none s.args.bytes.now s.args.lengths.now))
 
 mul-read16 : tie.Need-overflow-mul-read16 invariant-loop decreases-loop
 mul-read16 c = search rules
@@ -85,7 +85,7 @@ returns c =
     let l = r.before.before in
     let a = (start l).args in
     let e = r.read16.ensures in
-    ended r.before (bad-past a.bytes.now a.lengths.now l.loop.i (omega arith))
+    ended r.before (bad_past a.bytes.now a.lengths.now l.loop.i (omega arith))
 
 add-piece-in : tie.Need-overflow-add-piece-in invariant-loop decreases-loop
 add-piece-in c = search rules
@@ -110,7 +110,7 @@ returns-2 c =
     let t = c.before.before.before.before.before in
     let l = t.before in
     let a = (start l).args in
-    ended t (bad-no-piece a.bytes.now a.lengths.now l.loop.i l.loop.invariant.3 (rw (piece c.before) at c.if2.true))
+    ended t (bad_no_piece a.bytes.now a.lengths.now l.loop.i l.loop.invariant.3 (rw (piece c.before) at c.if2.true))
 
 slice-read-if3 : tie.Need-slice-read-if3 invariant-loop decreases-loop
 slice-read-if3 c = search rules
@@ -125,7 +125,7 @@ returns-3 c =
     let l = t.before in
     let a = (start l).args in
     ended t
-    (bad-marked a.bytes.now a.lengths.now l.loop.i l.loop.invariant.3 _ (piece e.before) e.if2.false l.loop.seen l.loop.invariant.4
+    (bad_marked a.bytes.now a.lengths.now l.loop.i l.loop.invariant.3 _ (piece e.before) e.if2.false l.loop.seen l.loop.invariant.4
     c.if3.true)
 
 slice-write-seen : tie.Need-slice-write-seen invariant-loop decreases-loop
@@ -141,7 +141,7 @@ loop-less : tie.Need-loop-smaller invariant-loop decreases-loop
 loop-less c = search rules
 
 loop-again : tie.Need-loop-preserved invariant-loop decreases-loop
-unfolding bytesBefore
+unfolding bytes_before
 loop-again c =
     let e = c.before.before in
     let r = e.before.before.before.before in
@@ -152,11 +152,11 @@ loop-again c =
     let i = l.loop.i in
     let p = piece e.before in
     let sound =
-    sound-unmarked b ls i l.loop.invariant.3 _ p e.if2.false l.loop.seen l.loop.invariant.4 (inside e.before.before.before) c.if3.false in (
+    sound_unmarked b ls i l.loop.invariant.3 _ p e.if2.false l.loop.seen l.loop.invariant.4 (inside e.before.before.before) c.if3.false in (
       search rules,
       ap₂ (λ x y. x + y) l.loop.invariant.1 r.read16.ensures ∙ sym (sum_more (length_at ls) i),
       search rules,
-      none_more (isBad b ls) i l.loop.invariant.3 sound,
+      none_more (is_bad b ls) i l.loop.invariant.3 sound,
       marked_more b ls i l.loop.invariant.3 _ p e.if2.false l.loop.seen l.loop.invariant.4,
     )
 
@@ -167,13 +167,13 @@ returns-4 : tie.Need-returns-4 invariant-loop decreases-loop
 returns-4 c =
     let l = c.before in
     let a = (start l).args in
-    let n = packetCount a.lengths.now in
+    let n = packet_count a.lengths.now in
     let e : l.loop.i ≡ n = omega arith in
-    let none : anyBelow (isBad a.bytes.now a.lengths.now) n ≡ false = rw e at l.loop.invariant.3 in
-    (sym (first-none (isBad a.bytes.now a.lengths.now) n none), rw e at l.loop.invariant.4)
+    let none : any_below (is_bad a.bytes.now a.lengths.now) n ≡ false = rw e at l.loop.invariant.3 in
+    (sym (first_none (is_bad a.bytes.now a.lengths.now) n none), rw e at l.loop.invariant.4)
 
-pub sound-packets-spec : {M : Type 1} → statement M
-sound-packets-spec =
+pub sound_packets_spec : {M : Type 1} → statement M
+sound_packets_spec =
     tie.close
     (tie.spec
     invariant-loop

@@ -52,8 +52,8 @@ returns-5 c = search rules
 returns-6 : tie.Need-returns-6
 returns-6 c = rw c.before.before.k4.given.1
 
-pub body-words-spec : {M : Type 1} → statement M
-body-words-spec =
+pub body_words_spec : {M : Type 1} → statement M
+body_words_spec =
     tie.close
     (tie.spec
     enum-known-k

@@ -1,6 +1,6 @@
 -- `ground_blocks::head_words` meets its contract.
 -- Assumes nothing.
-use Rattle.ground_blocks.proofs.Head.{head-is}
+use Rattle.ground_blocks.proofs.Head.{head_is}
 use borrow.Author.Rules.{rules}
 use Rattle.ground_blocks.proofs.head_words.Statement.{statement}
 use Rattle.ground_blocks.proofs.head_words.Tie as tie
@@ -33,10 +33,10 @@ array-read-t18 : tie.Need-array-read-t18
 array-read-t18 c = search rules
 
 returns : tie.Need-returns
-returns c = head-is c.before.before.before.before.before.args.f _ c.before.before.before.before.code_of_lem.ensures _ c.before.before.before.body-words.ensures
+returns c = head_is c.before.before.before.before.before.args.f _ c.before.before.before.before.code_of_lem.ensures _ c.before.before.before.body-words.ensures
 
-pub head-words-spec : {M : Type 1} → statement M
-head-words-spec =
+pub head_words_spec : {M : Type 1} → statement M
+head_words_spec =
     tie.close
     (tie.spec
     code-of-requires

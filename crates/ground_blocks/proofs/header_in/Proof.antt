@@ -25,8 +25,8 @@ at-most-16-requires-2 c κs = search rules
 returns : tie.Need-returns
 returns c = rw (c.before.before.before.before.at-most-16.ensures, c.before.before.before.before.before.word_at.ensures, c.before.before.at-most-8.ensures, c.before.before.before.word-at2.ensures, c.at-most-162.ensures, c.before.word-at3.ensures)
 
-pub header-in-spec : {M : Type 1} → statement M
-header-in-spec =
+pub header_in_spec : {M : Type 1} → statement M
+header_in_spec =
     tie.close
     (tie.spec
     word-at-requires

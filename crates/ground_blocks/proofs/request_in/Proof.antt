@@ -16,5 +16,5 @@ word-at-requires-2 c κs = search rules
 returns : tie.Need-returns
 returns c = rw (c.before.size_in.ensures, c.before.before.word_at.ensures, c.word-at2.ensures)
 
-pub request-in-spec : {M : Type 1} → statement M
-request-in-spec = tie.close (tie.spec word-at-requires size-in-requires word-at-requires-2 returns)
+pub request_in_spec : {M : Type 1} → statement M
+request_in_spec = tie.close (tie.spec word-at-requires size-in-requires word-at-requires-2 returns)

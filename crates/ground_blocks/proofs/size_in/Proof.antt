@@ -14,5 +14,5 @@ returns c = rw (le-leb _ 65535 c.if1.true)
 returns-2 : tie.Need-returns-2
 returns-2 c = rw (lt-leb _ 65535 c.if1.false)
 
-pub size-in-spec : {M : Type 1} → statement M
-size-in-spec = tie.close (tie.spec cast-result returns returns-2)
+pub size_in_spec : {M : Type 1} → statement M
+size_in_spec = tie.close (tie.spec cast-result returns returns-2)

@@ -22,8 +22,8 @@ size-in-requires c κs = search rules
 returns : tie.Need-returns
 returns c = rw (c.before.before.before.at-most-8.ensures, c.before.before.before.before.word_at.ensures, c.before.before.word-at2.ensures, c.size_in.ensures, c.before.word-at3.ensures)
 
-pub symbol-request-in-spec : {M : Type 1} → statement M
-symbol-request-in-spec =
+pub symbol_request_in_spec : {M : Type 1} → statement M
+symbol_request_in_spec =
     tie.close
     (tie.spec
     word-at-requires

@@ -46,8 +46,8 @@ returns-5 c = rw c.before.k.given.1
 returns-6 : tie.Need-returns-6
 returns-6 c = rw c.before.before.k2.given.1
 
-pub tail-words-spec : {M : Type 1} → statement M
-tail-words-spec =
+pub tail_words_spec : {M : Type 1} → statement M
+tail_words_spec =
     tie.close
     (tie.spec
     enum_told

@@ -3,10 +3,10 @@
 use mathlib.Core.Path.{refl, ap, ◌∙◌}
 use lib.ListN.{replicate}
 use borrow.Author.Rules.{rules}
-use Rattle.rules.specs.Results.{verdictNumber}
+use Rattle.rules.specs.Results.{verdict_number}
 use Rattle.batches.specs.Batch.{lends}
-use Rattle.batches.proofs.Whole.{room-long, given, not-given}
-use Rattle.lent_batch.specs.Batches.{onBlock}
+use Rattle.batches.proofs.Whole.{room_long, given, not_given}
+use Rattle.lent_batch.specs.Batches.{on_block}
 use Rattle.lent_batch.proofs.answered.Statement.{statement}
 use Rattle.lent_batch.proofs.answered.Tie as tie
 
@@ -17,13 +17,13 @@ array-borrow-prefix-numbers : tie.Need-array-borrow-prefix-numbers
 array-borrow-prefix-numbers c = search rules
 
 slice-aggregate-commands : tie.Need-slice-aggregate-commands
-slice-aggregate-commands c = room-long _ c.before.before.before.before.lesser.ensures (replicate 64 0) refl
+slice-aggregate-commands c = room_long _ c.before.before.before.before.lesser.ensures (replicate 64 0) refl
 
 array-borrow-prefix-sizes : tie.Need-array-borrow-prefix-sizes
 array-borrow-prefix-sizes c = search rules
 
 slice-aggregate-commands-2 : tie.Need-slice-aggregate-commands-2
-slice-aggregate-commands-2 c = room-long _ c.before.before.before.before.before.lesser.ensures (replicate 64 0) refl
+slice-aggregate-commands-2 c = room_long _ c.before.before.before.before.before.lesser.ensures (replicate 64 0) refl
 
 commands-requires : tie.Need-commands-requires
 commands-requires c κs = search rules
@@ -47,10 +47,10 @@ returns c =
     let a = l.before.before.before.before.before.before.before.before.args in
     let n = c.before.verdict-number.ensures in
     let g =
-    given a.records l.lesser.ensures (replicate 64 0) refl onBlock a.b.now
+    given a.records l.lesser.ensures (replicate 64 0) refl on_block a.b.now
     (lends a.bytes.now a.starts.now a.lengths.now a.symbols.now a.image.now a.replies.now) b.commands.ensures _
     n c.if1.true refl in
-    (n ∙ ap verdictNumber g.0, g.1, g.2)
+    (n ∙ ap verdict_number g.0, g.1, g.2)
 
 same-length-4 : tie.Need-same-length-4
 same-length-4 c = search rules
@@ -68,13 +68,13 @@ returns-2 c =
     let a = l.before.before.before.before.before.before.before.before.args in
     let n = c.before.verdict-number.ensures in
     let g =
-    not-given a.records l.lesser.ensures (replicate 64 0) refl onBlock a.b.now
+    not_given a.records l.lesser.ensures (replicate 64 0) refl on_block a.b.now
     (lends a.bytes.now a.starts.now a.lengths.now a.symbols.now a.image.now a.replies.now) b.commands.ensures _
     n c.if1.false refl in
-    (n ∙ ap verdictNumber g.0, g.1, g.2)
+    (n ∙ ap verdict_number g.0, g.1, g.2)
 
-pub answered-spec : {M : Type 1} → statement M
-answered-spec =
+pub answered_spec : {M : Type 1} → statement M
+answered_spec =
     tie.close
     (tie.spec
     lesser-requires

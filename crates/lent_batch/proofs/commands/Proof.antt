@@ -3,7 +3,7 @@
 use borrow.Author.Rules.{rules}
 use Rattle.batches.specs.Batch.{BatchArgs, lends}
 use Rattle.batches.proofs.Whole.{fits, refused, accepted}
-use Rattle.lent_batch.specs.Batches.{onBlock}
+use Rattle.lent_batch.specs.Batches.{on_block}
 use Rattle.lent_batch.proofs.commands.Statement.{statement}
 use Rattle.lent_batch.proofs.commands.Tie as tie
 
@@ -30,13 +30,13 @@ run-requires : tie.Need-run-requires
 run-requires c κs =
     let v = c.before.before.before.before.before.before.before in
     let a = (start v).args in
-    fits onBlock a.b.now (lent v) a.numbers.now a.sizes.now v.before.lesser.ensures v.batch-verdict.ensures c.before.before.before.before.before.enum-told2.given.1
+    fits on_block a.b.now (lent v) a.numbers.now a.sizes.now v.before.lesser.ensures v.batch-verdict.ensures c.before.before.before.before.before.enum-told2.given.1
 
 returns : tie.Need-returns
 returns c =
     let v = c.before.before in
     let a = (start v).args in
-    refused onBlock a.b.now (lent v) a.numbers.now a.sizes.now v.before.lesser.ensures v.batch-verdict.ensures c.enum_told.given.1
+    refused on_block a.b.now (lent v) a.numbers.now a.sizes.now v.before.lesser.ensures v.batch-verdict.ensures c.enum_told.given.1
 
 same_length : tie.Need-same-length
 same_length c = search rules
@@ -58,11 +58,11 @@ returns-2 c =
     let k = c.before.before.before.before.before.before.before.before.before.before in
     let v = k.before.before.before.before.before.before.before.before in
     let a = (start v).args in
-    accepted onBlock a.b.now (lent v) a.numbers.now a.sizes.now v.before.lesser.ensures v.batch-verdict.ensures
+    accepted on_block a.b.now (lent v) a.numbers.now a.sizes.now v.before.lesser.ensures v.batch-verdict.ensures
     k.before.before.before.before.before.before.enum-told2.given.1 k.run.ensures
 
-pub commands-spec : {M : Type 1} → statement M
-commands-spec =
+pub commands_spec : {M : Type 1} → statement M
+commands_spec =
     tie.close
     (tie.spec
     lesser-requires

@@ -6,10 +6,10 @@ use Prim.Native.Nat.{◌+◌, ◌*◌, ◌-◌}
 use native.Mathlib.Omega.{arith}
 use lib.ListN.{take, drop}
 use Rattle.rules.specs.Commands.{CommandArgs}
-use Rattle.batches.proofs.Items.{item-done}
-use Rattle.block.specs.Calls.{goodWords}
-use Rattle.lent_batch.specs.Batches.{onBlock}
-use Rattle.lent_batch.proofs.Kept.{within, words-kept}
+use Rattle.batches.proofs.Items.{item_done}
+use Rattle.block.specs.Calls.{good_words}
+use Rattle.lent_batch.specs.Batches.{on_block}
+use Rattle.lent_batch.proofs.Kept.{within, words_kept}
 use borrow.Author.Rules.{rules}
 use Rattle.lent_batch.proofs.item.Statement.{statement}
 use Rattle.lent_batch.proofs.item.Tie as tie
@@ -68,13 +68,13 @@ returns c =
     let n : 32 * a.i + 32 - 32 * a.i ≡ 32 = omega arith in
     let lent : CommandArgs = record { packet = a.packet.now; symbols = a.symbols.now; image = a.image.now; reply = take 32 (drop (32 * a.i) a.replies.now) } in
     let d =
-    item-done onBlock a.b.now a.packet.now a.symbols.now a.image.now a.replies.now a.i (within a.b.now lent) a.numbers.now a.sizes.now
+    item_done on_block a.b.now a.packet.now a.symbols.now a.image.now a.replies.now a.i (within a.b.now lent) a.numbers.now a.sizes.now
     s.requires.2 n (e.1, e.2, e.3, e.0, e.4) in
-    let kept = words-kept a.b.now lent (λ j. (c.before.before.before.before.before.before.before.before.before.before.before.before.before.before.before.before.before.slice-known.given j).fits) (λ j. (c.before.before.before.before.before.before.before.before.before.before.before.before.before.before.before.before.shared-slice-known.given j).fits) in
-    (d.0, d.1, d.2, d.3, d.4, ap goodWords d.0 ∙ kept)
+    let kept = words_kept a.b.now lent (λ j. (c.before.before.before.before.before.before.before.before.before.before.before.before.before.before.before.before.before.slice-known.given j).fits) (λ j. (c.before.before.before.before.before.before.before.before.before.before.before.before.before.before.before.before.shared-slice-known.given j).fits) in
+    (d.0, d.1, d.2, d.3, d.4, ap good_words d.0 ∙ kept)
 
-pub item-spec : {M : Type 1} → statement M
-item-spec =
+pub item_spec : {M : Type 1} → statement M
+item_spec =
     tie.close
     (tie.spec
     mul-from

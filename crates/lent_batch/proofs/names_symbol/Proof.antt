@@ -60,8 +60,8 @@ loop-again c = search rules
 returns-2 : tie.Need-returns-2 invariant-loop decreases-loop
 returns-2 c = search rules
 
-pub names-symbol-spec : {M : Type 1} → statement M
-names-symbol-spec =
+pub names_symbol_spec : {M : Type 1} → statement M
+names_symbol_spec =
     tie.close
     (tie.spec
     invariant-loop

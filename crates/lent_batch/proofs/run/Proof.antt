@@ -9,15 +9,15 @@ use borrow.Author.Rules.{rules}
 use Rattle.batches.specs.Batch.{BatchArgs, lends}
 use Rattle.batches.specs.InOrder.{Fits}
 use Rattle.batches.proofs.Turns.{fits, Upto, starts, turn, all}
-use Rattle.block.specs.Calls.{goodWords}
-use Rattle.lent_batch.specs.Batches.{onBlock}
+use Rattle.block.specs.Calls.{good_words}
+use Rattle.lent_batch.specs.Batches.{on_block}
 use Rattle.lent_batch.proofs.run.Statement.{statement}
 use Rattle.lent_batch.proofs.run.Tie as tie
 
 abbrev invariant-loop : tie.invariant-loop
 invariant-loop b₀ bytes starts lengths symbols image₀ replies₀ numbers₀ sizes₀ words known i₀ b image replies numbers sizes i =
-    Upto onBlock (lends bytes starts lengths symbols image₀ replies₀) numbers₀ sizes₀ b₀ i b image replies numbers sizes
-    × (words ≡ goodWords b)
+    Upto on_block (lends bytes starts lengths symbols image₀ replies₀) numbers₀ sizes₀ b₀ i b image replies numbers sizes
+    × (words ≡ good_words b)
     × (length b ≡ length b₀)
 
 abbrev decreases-loop : tie.decreases-loop
@@ -47,7 +47,7 @@ known-for-requires c κs = search rules
 loop-holds : tie.Need-loop-init invariant-loop decreases-loop
 loop-holds c =
     let start = c.before.before.before.before.before.before.before.before.before.before.before.before in
-    (starts onBlock (lent start) start.args.numbers.now start.args.sizes.now start.args.b.now, c.before.good-words.ensures, refl)
+    (starts on_block (lent start) start.args.numbers.now start.args.sizes.now start.args.b.now, c.before.good-words.ensures, refl)
 
 mul-bytes-from : tie.Need-overflow-mul-bytes-from invariant-loop decreases-loop
 mul-bytes-from c = search rules
@@ -87,7 +87,7 @@ loop-again c =
     let s = start t.before in
     let a = s.args in
     let inv = t.before.loop.inv in (
-      turn onBlock (lent s) a.numbers.now a.sizes.now a.b.now inv.0 (fit s) t.loop-test.taken packet (e.0, e.1, e.2, e.3, e.4)
+      turn on_block (lent s) a.numbers.now a.sizes.now a.b.now inv.0 (fit s) t.loop-test.taken packet (e.0, e.1, e.2, e.3, e.4)
           c.before.before.before.before.before.before.before.image.given c.before.before.before.before.before.replies.given c.before.before.before.numbers.given c.before.sizes.given,
       inv.1 ∙ sym e.5,
       c.before.before.before.before.before.before.before.before.before.b.given ∙ inv.2,
@@ -97,16 +97,16 @@ same_length : tie.Need-same-length invariant-loop decreases-loop
 same_length c = c.before.loop.invariant.2
 
 same-length-2 : tie.Need-same-length-2 invariant-loop decreases-loop
-same-length-2 c = c.before.loop.invariant.0.image-long
+same-length-2 c = c.before.loop.invariant.0.image_long
 
 same-length-3 : tie.Need-same-length-3 invariant-loop decreases-loop
-same-length-3 c = c.before.loop.invariant.0.replies-long
+same-length-3 c = c.before.loop.invariant.0.replies_long
 
 same-length-4 : tie.Need-same-length-4 invariant-loop decreases-loop
-same-length-4 c = c.before.loop.invariant.0.numbers-long
+same-length-4 c = c.before.loop.invariant.0.numbers_long
 
 same-length-5 : tie.Need-same-length-5 invariant-loop decreases-loop
-same-length-5 c = c.before.loop.invariant.0.sizes-long
+same-length-5 c = c.before.loop.invariant.0.sizes_long
 
 returns : tie.Need-returns invariant-loop decreases-loop
 returns c =
@@ -115,7 +115,7 @@ returns c =
     let a = s.args in
     let u = l.invariant.0 in
     let e : l.i ≡ length a.starts.now = omega (arith, u.inside, c.loop-test.false) in
-    all onBlock (lent s) a.numbers.now a.sizes.now a.b.now u e
+    all on_block (lent s) a.numbers.now a.sizes.now a.b.now u e
 
 pub run_spec : {M : Type 1} → statement M
 run_spec =

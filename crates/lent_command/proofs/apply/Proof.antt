@@ -99,8 +99,8 @@ same-length-6 c = search rules
 returns-7 : tie.Need-returns-7
 returns-7 c = rw (c.before.before.before.before.before.before.before.before.enum-told3.given.1, c.before.before.raise8.ensures, c.before.before.before.before.before.before.raise7.ensures)
 
-pub apply-spec : {M : Type 1} → statement M
-apply-spec =
+pub apply_spec : {M : Type 1} → statement M
+apply_spec =
     tie.close
     (tie.spec
     enum-known-d

@@ -1,9 +1,9 @@
 -- `lent_command::by_task` meets its contract.
 -- Assumes nothing.
 use native.Mathlib.Omega.{arith}
-use Rattle.block.proofs.GoodWords.{state-is, block_words}
-use Rattle.lent_state.proofs.Uses.{with_in, idle-in}
-use Rattle.lent_command.proofs.Steps.{pool-decided, value-decided}
+use Rattle.block.proofs.GoodWords.{state_is, block_words_lem}
+use Rattle.lent_state.proofs.Uses.{with_in, idle_in}
+use Rattle.lent_command.proofs.Steps.{pool_decided, value_decided}
 use borrow.Author.Rules.{rules}
 use Rattle.lent_command.proofs.by_task.Statement.{statement}
 use Rattle.lent_command.proofs.by_task.Tie as tie
@@ -15,7 +15,7 @@ part-ps-start : tie.Need-slice-bounds-ps-start
 part-ps-start c = search rules
 
 part-ps-end : tie.Need-slice-bounds-ps-end
-part-ps-end c = let n = block_words _ c.before.before.requires in omega arith
+part-ps-end c = let n = block_words_lem _ c.before.before.requires in omega arith
 
 enum_told : tie.Need-enum-told
 enum_told c = search rules
@@ -66,7 +66,7 @@ part-range-in-start : tie.Need-slice-bounds-range-in-start
 part-range-in-start c = search rules
 
 part-range-in-end : tie.Need-slice-bounds-range-in-end
-part-range-in-end c = let n = block_words _ c.before.before.before.before.before.before.requires in omega arith
+part-range-in-end c = let n = block_words_lem _ c.before.before.before.before.before.before.requires in omega arith
 
 cast-range-in : tie.Need-overflow-cast-range-in
 cast-range-in c = search rules
@@ -119,7 +119,7 @@ returns c = rw c.enum_told.given.1
 returns-2 : tie.Need-returns-2
 returns-2 c =
     let s = c.before.before.before.before.before.before.before.before.before.before in
-    rw (c.before.before.before.before.before.k.given.1, ← c.before.before.before.find.ensures, ← with_in s.args.b.now s.args.t c.before.before.first-with.ensures, ← idle-in s.args.b.now c.before.first-idle.ensures)
+    rw (c.before.before.before.before.before.k.given.1, ← c.before.before.before.find.ensures, ← with_in s.args.b.now s.args.t c.before.before.first-with.ensures, ← idle_in s.args.b.now c.before.first-idle.ensures)
     c.dump.ensures
 
 returns-3 : tie.Need-returns-3
@@ -139,15 +139,15 @@ returns-5 c =
     let range = unit.before.before in
     let known = range.before.before.before in
     rw known.k3.given.1
-    (pool-decided _ (state-is _ known.before.before.before.before.before.requires) _ _ _ range.range-in.ensures found.find3.ensures c.before.index2.ensures unit.before.word_at.ensures unit.word-at2.ensures c.pool-statistics.ensures)
+    (pool_decided _ (state_is _ known.before.before.before.before.before.requires) _ _ _ range.range-in.ensures found.find3.ensures c.before.index2.ensures unit.before.word_at.ensures unit.word-at2.ensures c.pool-statistics.ensures)
 
 returns-6 : tie.Need-returns-6
 returns-6 c =
     let s = c.before.before.before.before.before.before.before.before in
-    rw c.before.before.before.k4.given.1 (value-decided _ (state-is _ s.requires) _ _ s.args.image.now c.before.word-at3.ensures c.word-at4.ensures)
+    rw c.before.before.before.k4.given.1 (value_decided _ (state_is _ s.requires) _ _ s.args.image.now c.before.word-at3.ensures c.word-at4.ensures)
 
-pub by-task-spec : {M : Type 1} → statement M
-by-task-spec =
+pub by_task_spec : {M : Type 1} → statement M
+by_task_spec =
     tie.close
     (tie.spec
     sub-ps

@@ -3,8 +3,8 @@
 use Prim.Native.Nat.{◌%◌}
 use lib.ListN.{length}
 use Rattle.lists.proofs.Tests.{and_both}
-use Rattle.block.proofs.GoodWords.{is_block, is-good}
-use Rattle.lent_command.proofs.Steps.{opened-on, opened_some}
+use Rattle.block.proofs.GoodWords.{is_block_lem, is_good}
+use Rattle.lent_command.proofs.Steps.{opened_on, opened_some}
 use borrow.Author.Rules.{rules}
 use Rattle.lent_command.proofs.decide.Statement.{statement}
 use Rattle.lent_command.proofs.decide.Tie as tie
@@ -33,19 +33,19 @@ by-task-requires c κs =
     let s = told.before.before.before.before.before.before.before.before.before in
     let a = s.args in
     let some = opened_some a.words (length a.image.now) a.reply a.packet.now a.symbols.now (told.before.before.before.before.word_at.result % 256) told.before.before.before.opened-by.ensures told.before.sought2.given.1 in
-    and_both (is_block _ s.requires.0 some) (is-good _ s.requires.0 some)
+    and_both (is_block_lem _ s.requires.0 some) (is_good _ s.requires.0 some)
 
 returns : tie.Need-returns
-returns c = λ bytes e. rw (← opened-on _ _ _ c.before.before.before.before.word_at.ensures, e, ← c.before.before.before.before.before.before.before.before.before.requires.0, ← c.before.before.before.opened-by.ensures, c.before.sought.given.1)
+returns c = λ bytes e. rw (← opened_on _ _ _ c.before.before.before.before.word_at.ensures, e, ← c.before.before.before.before.before.before.before.before.before.requires.0, ← c.before.before.before.opened-by.ensures, c.before.sought.given.1)
 
 returns-2 : tie.Need-returns-2
 returns-2 c = λ bytes e.
     let told = c.before.before in
-    rw (← opened-on _ _ _ told.before.before.before.before.word_at.ensures, e, ← told.before.before.before.before.before.before.before.before.before.requires.0, ← told.before.before.before.opened-by.ensures, told.before.sought2.given.1, ← c.before.transaction-of.ensures)
-    c.by-task.ensures
+    rw (← opened_on _ _ _ told.before.before.before.before.word_at.ensures, e, ← told.before.before.before.before.before.before.before.before.before.requires.0, ← told.before.before.before.opened-by.ensures, told.before.sought2.given.1, ← c.before.transaction-of.ensures)
+    c.by_task_lem.ensures
 
-pub decide-spec : {M : Type 1} → statement M
-decide-spec =
+pub decide_spec : {M : Type 1} → statement M
+decide_spec =
     tie.close
     (tie.spec
     word-at-requires

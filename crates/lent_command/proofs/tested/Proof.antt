@@ -1,7 +1,7 @@
 -- `lent_command::tested` meets its contract.
 -- Assumes nothing.
 use mathlib.Core.Path.{refl}
-use Rattle.lent_command.proofs.Steps.{command-left}
+use Rattle.lent_command.proofs.Steps.{command_left}
 use borrow.Author.Rules.{rules}
 use Rattle.lent_command.proofs.tested.Statement.{statement}
 use Rattle.lent_command.proofs.tested.Tie as tie
@@ -32,10 +32,10 @@ same-length-3 c = search rules
 
 returns : tie.Need-returns
 returns c =
-    command-left _ (λ i. (c.before.before.before.before.before.before.before.before.before.before.before.before.before.before.before.before.before.before.before.before.before.slice-known.given i).fits) _ (c.before.before.before.before.before.before.before.before.before.before.before.before.before.before.decide.ensures _ refl) c.before.before.before.before.before.apply.ensures c.before.before.before.before.before.before.before.before.before.before.before.write-out.ensures c.before.before.answer-of.ensures c.hand-over.ensures
+    command_left _ (λ i. (c.before.before.before.before.before.before.before.before.before.before.before.before.before.before.before.before.before.before.before.before.before.slice-known.given i).fits) _ (c.before.before.before.before.before.before.before.before.before.before.before.before.before.before.decide.ensures _ refl) c.before.before.before.before.before.apply.ensures c.before.before.before.before.before.before.before.before.before.before.before.write-out.ensures c.before.before.answer-of.ensures c.hand-over.ensures
 
-pub tested-spec : {M : Type 1} → statement M
-tested-spec =
+pub tested_spec : {M : Type 1} → statement M
+tested_spec =
     tie.close
     (tie.spec
     decide-requires

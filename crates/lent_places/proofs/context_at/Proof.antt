@@ -1,12 +1,12 @@
 -- `lent_places::context_at` meets its contract.
 -- Assumes nothing.
-use Rattle.lent_places.proofs.Steps.{past-read, idle-read, busy-read}
+use Rattle.lent_places.proofs.Steps.{past_read, idle_read, busy_read}
 use borrow.Author.Rules.{rules}
 use Rattle.lent_places.proofs.context_at.Statement.{statement}
 use Rattle.lent_places.proofs.context_at.Tie as tie
 
 returns : tie.Need-returns
-returns c = past-read c.before.before.args.ps.now _ c.if1.true
+returns c = past_read c.before.before.args.ps.now _ c.if1.true
 
 mul_at : tie.Need-overflow-mul-at
 mul_at c = search rules
@@ -17,7 +17,7 @@ word-at-requires c κs = search rules
 returns-2 : tie.Need-returns-2
 returns-2 c =
     let at-word = c.before in
-    idle-read at-word.before.before.before.args.ps.now _ at-word.before.if1.false _ at-word.word_at.ensures c.if2.true
+    idle_read at-word.before.before.before.args.ps.now _ at-word.before.if1.false _ at-word.word_at.ensures c.if2.true
 
 add-word-at : tie.Need-overflow-add-word-at
 add-word-at c = search rules
@@ -44,11 +44,11 @@ returns-3 : tie.Need-returns-3
 returns-3 c =
     let at-number = c.before.before in
     let at-word = at-number.before.before in
-    busy-read at-word.before.before.before.args.ps.now _ at-word.before.if1.false _ at-word.word_at.ensures at-number.before.if2.false
+    busy_read at-word.before.before.before.args.ps.now _ at-word.before.if1.false _ at-word.word_at.ensures at-number.before.if2.false
     _ at-number.word-at2.ensures _ c.before.range-in.ensures _ c.word-at3.ensures
 
-pub context-at-spec : {M : Type 1} → statement M
-context-at-spec =
+pub context_at_spec : {M : Type 1} → statement M
+context_at_spec =
     tie.close
     (tie.spec
     returns

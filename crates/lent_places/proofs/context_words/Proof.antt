@@ -19,5 +19,5 @@ returns c = search rules
 returns-2 : tie.Need-returns-2
 returns-2 c = rw c.before.before.c.given.1
 
-pub context-words-spec : {M : Type 1} → statement M
-context-words-spec = tie.close (tie.spec enum_told enum-known-c cast-t4 returns returns-2)
+pub context_words_spec : {M : Type 1} → statement M
+context_words_spec = tie.close (tie.spec enum_told enum-known-c cast-t4 returns returns-2)

@@ -5,16 +5,16 @@ use mathlib.Core.Bool.{false}
 use mathlib.Core.Path.{◌≡◌, refl, sym, ◌∙◌}
 use native.Mathlib.Omega.{arith}
 use borrow.Author.Rules.{rules}
-use Rattle.lists.specs.Below.{anyBelow}
-use Rattle.rules.specs.States.{contextAt}
-use Rattle.rules.specs.Commands.{isIdle, firstIdle}
-use Rattle.places.proofs.Steps.{go_on, stop-here, none_left}
-use Rattle.block.specs.Blocks.{placesIn}
+use Rattle.lists.specs.Below.{any_below}
+use Rattle.rules.specs.States.{context_at}
+use Rattle.rules.specs.Commands.{is_idle, first_idle}
+use Rattle.places.proofs.Steps.{go_on, stop_here, none_left}
+use Rattle.block.specs.Blocks.{places_in}
 use Rattle.lent_places.proofs.first_idle.Statement.{statement}
 use Rattle.lent_places.proofs.first_idle.Tie as tie
 
 abbrev invariant-loop : tie.invariant-loop
-invariant-loop ps i₀ i = (i ≤ 4) × (anyBelow (λ j. isIdle (contextAt (placesIn ps 0) j)) i ≡ false)
+invariant-loop ps i₀ i = (i ≤ 4) × (any_below (λ j. is_idle (context_at (places_in ps 0) j)) i ≡ false)
 
 abbrev decreases-loop : tie.decreases-loop
 decreases-loop ps i₀ i = 4 - i
@@ -26,8 +26,8 @@ idle-at-requires : tie.Need-idle-at-requires invariant-loop decreases-loop
 idle-at-requires c κs = search rules
 
 returns : tie.Need-returns invariant-loop decreases-loop
-unfolding firstIdle
-returns c = let l = c.before.before.before.loop in stop-here _ l.i l.invariant.1 4 (omega arith) (sym c.before.idle-at.ensures.0 ∙ c.if1.true)
+unfolding first_idle
+returns c = let l = c.before.before.before.loop in stop_here _ l.i l.invariant.1 4 (omega arith) (sym c.before.idle-at.ensures.0 ∙ c.if1.true)
 
 add-i : tie.Need-overflow-add-i invariant-loop decreases-loop
 add-i c = omega arith
@@ -39,11 +39,11 @@ loop-again : tie.Need-loop-preserved invariant-loop decreases-loop
 loop-again c = let l = c.before.before.before.loop in (omega arith, go_on _ l.i l.invariant.1 (sym c.before.idle-at.ensures.0 ∙ c.if1.false))
 
 returns-2 : tie.Need-returns-2 invariant-loop decreases-loop
-unfolding firstIdle
+unfolding first_idle
 returns-2 c = let l = c.before.loop in none_left _ l.i l.invariant.1 4 (omega arith)
 
-pub first-idle-spec : {M : Type 1} → statement M
-first-idle-spec =
+pub first_idle_spec : {M : Type 1} → statement M
+first_idle_spec =
     tie.close
     (tie.spec
     invariant-loop

@@ -5,17 +5,17 @@ use mathlib.Core.Bool.{false}
 use mathlib.Core.Path.{◌≡◌, refl, sym, ◌∙◌}
 use native.Mathlib.Omega.{arith}
 use borrow.Author.Rules.{rules}
-use Rattle.lists.specs.Below.{anyBelow}
-use Rattle.rules.specs.States.{contextAt, busyWith}
-use Rattle.places.specs.Turns.{firstWithin}
-use Rattle.places.proofs.Steps.{go_on, stop-here}
-use Rattle.block.specs.Blocks.{placesIn}
-use Rattle.lent_places.proofs.Steps.{none-with}
+use Rattle.lists.specs.Below.{any_below}
+use Rattle.rules.specs.States.{context_at, busy_with}
+use Rattle.places.specs.Turns.{first_within}
+use Rattle.places.proofs.Steps.{go_on, stop_here}
+use Rattle.block.specs.Blocks.{places_in}
+use Rattle.lent_places.proofs.Steps.{none_with}
 use Rattle.lent_places.proofs.first_with.Statement.{statement}
 use Rattle.lent_places.proofs.first_with.Tie as tie
 
 abbrev invariant-loop : tie.invariant-loop
-invariant-loop ps t k n i₀ i = (i ≤ n) × (anyBelow (λ j. busyWith t (contextAt (placesIn ps 0) j)) i ≡ false)
+invariant-loop ps t k n i₀ i = (i ≤ n) × (any_below (λ j. busy_with t (context_at (places_in ps 0) j)) i ≡ false)
 
 abbrev decreases-loop : tie.decreases-loop
 decreases-loop ps t k n i₀ i = n - i
@@ -30,8 +30,8 @@ with-at-requires : tie.Need-with-at-requires invariant-loop decreases-loop
 with-at-requires c κs = search rules
 
 returns : tie.Need-returns invariant-loop decreases-loop
-unfolding firstWithin
-returns c = let l = c.before.before.before.loop in let at_n = c.before.before.before.before in let e = at_n.at-most-4.ensures in stop-here _ l.i l.invariant.1 at_n.before.before.args.k (omega arith) (sym c.before.with_at.ensures ∙ c.if1.true)
+unfolding first_within
+returns c = let l = c.before.before.before.loop in let at_n = c.before.before.before.before in let e = at_n.at-most-4.ensures in stop_here _ l.i l.invariant.1 at_n.before.before.args.k (omega arith) (sym c.before.with_at.ensures ∙ c.if1.true)
 
 add-i : tie.Need-overflow-add-i invariant-loop decreases-loop
 add-i c = omega arith
@@ -46,10 +46,10 @@ returns-2 : tie.Need-returns-2 invariant-loop decreases-loop
 returns-2 c =
     let l = c.before in
     let a = l.before.before.before.args in
-    none-with a.ps.now a.t a.k _ l.loop.i l.before.at-most-4.ensures l.loop.invariant.0 c.loop-test.false l.loop.invariant.1
+    none_with a.ps.now a.t a.k _ l.loop.i l.before.at-most-4.ensures l.loop.invariant.0 c.loop-test.false l.loop.invariant.1
 
-pub first-with-spec : {M : Type 1} → statement M
-first-with-spec =
+pub first_with_spec : {M : Type 1} → statement M
+first_with_spec =
     tie.close
     (tie.spec
     invariant-loop

@@ -1,6 +1,6 @@
 -- `lent_places::idle_at` meets its contract.
 -- Assumes nothing.
-use Rattle.lent_places.proofs.Steps.{idle-word}
+use Rattle.lent_places.proofs.Steps.{idle_word}
 use borrow.Author.Rules.{rules}
 use Rattle.lent_places.proofs.idle_at.Statement.{statement}
 use Rattle.lent_places.proofs.idle_at.Tie as tie
@@ -12,7 +12,7 @@ word-at-requires : tie.Need-word-at-requires
 word-at-requires c κs = search rules
 
 returns : tie.Need-returns
-returns c = let start = c.before.before in idle-word start.args.ps.now start.args.i start.requires _ c.word_at.ensures
+returns c = let start = c.before.before in idle_word start.args.ps.now start.args.i start.requires _ c.word_at.ensures
 
-pub idle-at-spec : {M : Type 1} → statement M
-idle-at-spec = tie.close (tie.spec mul-word-at word-at-requires returns)
+pub idle_at_spec : {M : Type 1} → statement M
+idle_at_spec = tie.close (tie.spec mul-word-at word-at-requires returns)

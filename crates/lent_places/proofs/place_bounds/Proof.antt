@@ -1,12 +1,12 @@
 -- `lent_places::place_bounds` meets its contract.
 -- Assumes nothing.
-use Rattle.lent_places.proofs.Steps.{past-bounds, idle-bounds, busy-bounds}
+use Rattle.lent_places.proofs.Steps.{past_bounds, idle_bounds, busy_bounds}
 use borrow.Author.Rules.{rules}
 use Rattle.lent_places.proofs.place_bounds.Statement.{statement}
 use Rattle.lent_places.proofs.place_bounds.Tie as tie
 
 returns : tie.Need-returns
-returns c = past-bounds c.before.before.args.ps.now _ c.if1.true
+returns c = past_bounds c.before.before.args.ps.now _ c.if1.true
 
 mul_at : tie.Need-overflow-mul-at
 mul_at c = search rules
@@ -44,7 +44,7 @@ returns-2 c =
     let at-word = then.before in
     let a = at-word.before.before.before.args in
     rw (c.before.before.before.word-at2.ensures, c.before.before.word-at3.ensures, c.before.word-at4.ensures, c.word-at5.ensures)
-    (idle-bounds a.ps.now a.i _ at-word.before.if1.false at-word.word_at.ensures then.if2.true)
+    (idle_bounds a.ps.now a.i _ at-word.before.if1.false at-word.word_at.ensures then.if2.true)
 
 add-word-at-5 : tie.Need-overflow-add-word-at-5
 add-word-at-5 c = search rules
@@ -57,10 +57,10 @@ returns-3 c =
     let else = c.before in
     let at-word = else.before in
     let a = at-word.before.before.before.args in
-    rw c.word-at6.ensures (busy-bounds a.ps.now a.i _ at-word.before.if1.false at-word.word_at.ensures else.if2.false)
+    rw c.word-at6.ensures (busy_bounds a.ps.now a.i _ at-word.before.if1.false at-word.word_at.ensures else.if2.false)
 
-pub place-bounds-spec : {M : Type 1} → statement M
-place-bounds-spec =
+pub place_bounds_spec : {M : Type 1} → statement M
+place_bounds_spec =
     tie.close
     (tie.spec
     returns

@@ -5,13 +5,13 @@ use mathlib.Core.Path.{refl}
 use Prim.Native.Nat.{◌<◌}
 use native.Mathlib.Omega.{arith}
 use Rattle.regions.proofs.Steps.{found_none}
-use Rattle.block.specs.Blocks.{regionsIn}
-use Rattle.lent_regions.proofs.Steps.{found-past, found_here, no_table, in_table}
+use Rattle.block.specs.Blocks.{regions_in}
+use Rattle.lent_regions.proofs.Steps.{found_past, found_here, no_table_lem, in_table}
 use Rattle.lent_regions.proofs.find_region.Statement.{statement}
 use Rattle.lent_regions.proofs.find_region.Tie as tie
 
 returns : tie.Need-returns
-returns c = let a = c.before.before.args in no_table a.rs.now a.n a.a c.if1.true
+returns c = let a = c.before.before.args in no_table_lem a.rs.now a.n a.a c.if1.true
 
 first-word-requires : tie.Need-first-word-requires
 first-word-requires c κs = search rules
@@ -27,9 +27,9 @@ returns-2 c =
     let r = c.before.before in
     let else = r.before.before in
     let a = else.before.before.args in
-    let k = rw r.before.first_word.ensures at r.region-of.ensures.0 in
+    let k = rw r.before.first_word.ensures at r.region_of_lem.ensures.0 in
     in_table a.rs.now a.n a.a else.if1.false
-    (found_none (regionsIn a.rs.now 0) _ a.a _ k (rw c.before.entries.ensures at c.if2.true))
+    (found_none (regions_in a.rs.now 0) _ a.a _ k (rw c.before.entries.ensures at c.if2.true))
 
 mul-end-of : tie.Need-overflow-mul-end-of
 mul-end-of c = search rules
@@ -64,11 +64,11 @@ returns-3 c =
     let r = e.before.before in
     let else = r.before.before in
     let a = else.before.before.args in
-    let k = rw r.before.first_word.ensures at r.region-of.ensures.0 in
-    let low : r.region-of.result.region < 16 = let m = e.before.entries.ensures in let l = e.if2.false in omega arith in
+    let k = rw r.before.first_word.ensures at r.region_of_lem.ensures.0 in
+    let low : r.region_of_lem.result.region < 16 = let m = e.before.entries.ensures in let l = e.if2.false in omega arith in
     let short = rw (c.before.before.end_of_lem.ensures, c.before.end-of2.ensures) at c.if3.true in
     in_table a.rs.now a.n a.a else.if1.false
-    (found-past a.rs.now _ low _ a.a k (rw e.before.entries.ensures at e.if2.false) short)
+    (found_past a.rs.now _ low _ a.a k (rw e.before.entries.ensures at e.if2.false) short)
 
 mul-rights : tie.Need-overflow-mul-rights
 mul-rights c = search rules
@@ -92,14 +92,14 @@ returns-4 c =
     let r = e.before.before in
     let else = r.before.before in
     let a = else.before.before.args in
-    let k = rw r.before.first_word.ensures at r.region-of.ensures.0 in
-    let low : r.region-of.result.region < 16 = let m = e.before.entries.ensures in let l = e.if2.false in omega arith in
+    let k = rw r.before.first_word.ensures at r.region_of_lem.ensures.0 in
+    let low : r.region_of_lem.result.region < 16 = let m = e.before.entries.ensures in let l = e.if2.false in omega arith in
     let whole = rw (q.before.before.end_of_lem.ensures, q.before.end-of2.ensures) at q.if3.false in
     in_table a.rs.now a.n a.a else.if1.false
     (found_here a.rs.now _ low _ a.a k (rw e.before.entries.ensures at e.if2.false) whole _ refl)
 
-pub find-region-spec : {M : Type 1} → statement M
-find-region-spec =
+pub find_region_spec : {M : Type 1} → statement M
+find_region_spec =
     tie.close
     (tie.spec
     returns

@@ -6,16 +6,16 @@ use mathlib.Core.Logic.{⊎_elim}
 use Prim.Native.Nat.{◌≤◌, ◌<◌}
 use native.Mathlib.Omega.{arith}
 use Rattle.regions.specs.Halving.{middle}
-use Rattle.regions.proofs.InOrder.{at-most-five}
-use Rattle.regions.proofs.Steps.{falls-short, Left, all_left, half-left, on-short, on-long, one_left, all-counted, count_low, compared_is, region-held, region-none}
-use Rattle.block.specs.Blocks.{regionsIn}
+use Rattle.regions.proofs.InOrder.{at_most_five}
+use Rattle.regions.proofs.Steps.{falls_short, Left, all_left, half_left, on_short, on_long, one_left_lem, all_counted, count_low, compared_is, region_held, region_none}
+use Rattle.block.specs.Blocks.{regions_in}
 use Rattle.lent_regions.proofs.Steps.{end_is, held_at}
 use Rattle.lent_regions.proofs.region_of.Statement.{statement}
 use Rattle.lent_regions.proofs.region_of.Tie as tie
 
 abbrev invariant-loop : tie.invariant-loop
 invariant-loop rs n m from end first₀ left₀ compared₀ first left compared =
-    (m ≤ 16) × Left (falls-short (regionsIn rs 0) end) m first left compared
+    (m ≤ 16) × Left (falls_short (regions_in rs 0) end) m first left compared
 
 abbrev decreases-loop : tie.decreases-loop
 decreases-loop rs n m from end first₀ left₀ compared₀ first left compared = left
@@ -85,8 +85,8 @@ loop-again c =
     let low : middle first left < 16 = omega arith in
     let e = end_is w (middle first left) low _ _ refl refl c.before.end-of2.ensures in (
       l.loop.invariant.0,
-      half-left _ _ first left _ l.loop.invariant.1 c.before.before.before.before.loop-test.true _
-          (⊎_elim (λ x. x.1 ∙ on-short (regionsIn w 0) _ first left _ e x.0.taken) (λ x. x.1 ∙ on-long (regionsIn w 0) _ first left _ e x.0.left) c.if1.branch),
+      half_left _ _ first left _ l.loop.invariant.1 c.before.before.before.before.loop-test.true _
+          (⊎_elim (λ x. x.1 ∙ on_short (regions_in w 0) _ first left _ e x.0.taken) (λ x. x.1 ∙ on_long (regions_in w 0) _ first left _ e x.0.left) c.if1.branch),
     )
 
 mul-is-holding : tie.Need-overflow-mul-is-holding invariant-loop decreases-loop
@@ -117,34 +117,34 @@ returns : tie.Need-returns invariant-loop decreases-loop
 returns c =
     let l = c.before.before.before.before in
     let a = l.before.before.before.before.before.args in
-    let rs = regionsIn a.rs.now 0 in
+    let rs = regions_in a.rs.now 0 in
     let end = l.before.before.end_of_lem.ensures in
     let w = l.before.loop.invariant.1 in
-    let k = one_left _ _ _ _ _ w l.loop-test.false in
+    let k = one_left_lem _ _ _ _ _ w l.loop-test.false in
     let at = held_at a.rs.now l.before.loop.first w.low _ _ refl refl _ _ in
     rw (← l.before.before.before.entries.ensures) (
-      region-held rs _ a.a _ end _ k (sym at ∙ sym c.before.is-holding.ensures ∙ c.if2.true),
-      compared_is rs _ a.a _ end (all-counted _ _ _ _ _ w l.loop-test.false),
-      at-most-five _ _ _,
+      region_held rs _ a.a _ end _ k (sym at ∙ sym c.before.is-holding.ensures ∙ c.if2.true),
+      compared_is rs _ a.a _ end (all_counted _ _ _ _ _ w l.loop-test.false),
+      at_most_five _ _ _,
     )
 
 returns-2 : tie.Need-returns-2 invariant-loop decreases-loop
 returns-2 c =
     let l = c.before.before.before.before in
     let a = l.before.before.before.before.before.args in
-    let rs = regionsIn a.rs.now 0 in
+    let rs = regions_in a.rs.now 0 in
     let end = l.before.before.end_of_lem.ensures in
     let w = l.before.loop.invariant.1 in
-    let k = one_left _ _ _ _ _ w l.loop-test.false in
+    let k = one_left_lem _ _ _ _ _ w l.loop-test.false in
     let at = held_at a.rs.now l.before.loop.first w.low _ _ refl refl _ _ in
     rw (← l.before.before.before.entries.ensures) (
-      region-none rs _ a.a _ end _ k (sym at ∙ sym c.before.is-holding.ensures ∙ c.if2.false),
-      compared_is rs _ a.a _ end (all-counted _ _ _ _ _ w l.loop-test.false),
-      at-most-five _ _ _,
+      region_none rs _ a.a _ end _ k (sym at ∙ sym c.before.is-holding.ensures ∙ c.if2.false),
+      compared_is rs _ a.a _ end (all_counted _ _ _ _ _ w l.loop-test.false),
+      at_most_five _ _ _,
     )
 
-pub region-of-spec : {M : Type 1} → statement M
-region-of-spec =
+pub region_of_spec : {M : Type 1} → statement M
+region_of_spec =
     tie.close
     (tie.spec
     invariant-loop

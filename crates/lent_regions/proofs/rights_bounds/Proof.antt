@@ -8,7 +8,7 @@ use lib.Dec.{leb}
 use Rattle.lists.specs.Below.{all_below}
 use Rattle.lists.proofs.Below.{all_more}
 use Rattle.block.specs.Blocks.{word}
-use Rattle.lent_regions.proofs.Steps.{rights-all}
+use Rattle.lent_regions.proofs.Steps.{rights_all}
 use Rattle.lent_regions.proofs.rights_bounds.Statement.{statement}
 use Rattle.lent_regions.proofs.rights_bounds.Tie as tie
 
@@ -53,10 +53,10 @@ returns : tie.Need-returns invariant-loop decreases-loop
 returns c =
     let l = c.before in
     let a = l.before.before.before.args in
-    l.loop.invariant.1 ∙ rights-all a.rs.now a.n _ l.loop.i l.before.entries.ensures l.loop.invariant.0 c.loop-test.false
+    l.loop.invariant.1 ∙ rights_all a.rs.now a.n _ l.loop.i l.before.entries.ensures l.loop.invariant.0 c.loop-test.false
 
-pub rights-bounds-spec : {M : Type 1} → statement M
-rights-bounds-spec =
+pub rights_bounds_spec : {M : Type 1} → statement M
+rights_bounds_spec =
     tie.close
     (tie.spec
     invariant-loop

@@ -1,7 +1,7 @@
 -- `lent_regions::word_index` meets its contract.
 -- Assumes nothing.
 use borrow.Author.Rules.{rules}
-use Rattle.lent_regions.proofs.Steps.{no_index, index-past, index-here}
+use Rattle.lent_regions.proofs.Steps.{no_index, index_past, index_here}
 use Rattle.lent_regions.proofs.word_index.Statement.{statement}
 use Rattle.lent_regions.proofs.word_index.Tie as tie
 
@@ -9,7 +9,7 @@ returns : tie.Need-returns
 returns c = let a = c.before.before.args in no_index a.rs.now a.k a.a c.if1.true
 
 returns-2 : tie.Need-returns-2
-returns-2 c = let a = c.before.before.before.args in index-past a.rs.now a.k a.a c.before.if1.false c.if2.true
+returns-2 c = let a = c.before.before.before.args in index_past a.rs.now a.k a.a c.before.if1.false c.if2.true
 
 words-below-requires : tie.Need-words-below-requires
 words-below-requires c κs = search rules
@@ -37,10 +37,10 @@ returns-3 c =
     let below = c.before.before in
     let low = below.before in
     let a = low.before.before.before.args in
-    index-here a.rs.now a.k a.a low.before.if1.false low.if2.false _ _ below.words-below.ensures.0 c.words-before.ensures
+    index_here a.rs.now a.k a.a low.before.if1.false low.if2.false _ _ below.words-below.ensures.0 c.words-before.ensures
 
-pub word-index-spec : {M : Type 1} → statement M
-word-index-spec =
+pub word_index_spec : {M : Type 1} → statement M
+word_index_spec =
     tie.close
     (tie.spec
     returns

@@ -4,21 +4,21 @@ use borrow.Author.Rules.{rules}
 use mathlib.Core.Path.{◌≡◌, refl}
 use Prim.Native.Nat.{◌+◌, ◌*◌, ◌-◌, ◌≤◌, ◌<◌}
 use native.Mathlib.Omega.{arith}
-use Rattle.rules.specs.Regions.{wordsBelow}
-use Rattle.block.specs.Blocks.{regionsIn}
-use Rattle.lent_regions.proofs.Steps.{words-at}
+use Rattle.rules.specs.Regions.{words_below}
+use Rattle.block.specs.Blocks.{regions_in}
+use Rattle.lent_regions.proofs.Steps.{words_at_lem}
 use Rattle.lent_regions.proofs.words_below.Statement.{statement}
 use Rattle.lent_regions.proofs.words_below.Tie as tie
 
 abbrev invariant-loop : tie.invariant-loop
 invariant-loop rs k total₀ i₀ total i =
-    (i ≤ k) × (total ≡ wordsBelow (regionsIn rs 0) i) × (total ≤ 4294967296 * i)
+    (i ≤ k) × (total ≡ words_below (regions_in rs 0) i) × (total ≤ 4294967296 * i)
 
 abbrev decreases-loop : tie.decreases-loop
 decreases-loop rs k total₀ i₀ total i = k - i
 
 loop-holds : tie.Need-loop-init invariant-loop decreases-loop
-unfolding wordsBelow
+unfolding words_below
 loop-holds c = search rules
 
 mul-total : tie.Need-overflow-mul-total invariant-loop decreases-loop
@@ -49,15 +49,15 @@ loop-again : tie.Need-loop-preserved invariant-loop decreases-loop
 loop-again c =
     let l = c.before.before in
     let low : l.loop.i < 16 = let most = l.before.requires.1 in omega arith in
-    (search rules, rw l.loop.invariant.1 (words-at l.before.args.rs.now l.loop.i low _ _ refl refl), omega (arith, c.shared-slice-known.given (3 * l.loop.i + 1)))
+    (search rules, rw l.loop.invariant.1 (words_at_lem l.before.args.rs.now l.loop.i low _ _ refl refl), omega (arith, c.shared-slice-known.given (3 * l.loop.i + 1)))
 
 returns : tie.Need-returns invariant-loop decreases-loop
 returns c =
     let i : c.before.loop.i ≡ c.before.before.args.k = let h = c.before.loop.invariant.0 in let t = c.loop-test.false in omega arith in
     rw (← i) (c.before.loop.invariant.1, c.before.loop.invariant.2)
 
-pub words-below-spec : {M : Type 1} → statement M
-words-below-spec =
+pub words_below_spec : {M : Type 1} → statement M
+words_below_spec =
     tie.close
     (tie.spec
     invariant-loop

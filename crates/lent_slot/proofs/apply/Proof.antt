@@ -31,8 +31,8 @@ same_length c = search rules
 returns-2 : tie.Need-returns-2
 returns-2 c = rw (c.before.before.before.before.before.before.before.before.before.before.before.before.before.before.d.given.1, c.before.before.raise.ensures, c.before.before.before.before.before.before.set_word.ensures, c.before.before.before.before.before.before.before.before.before.before.before.put-context.ensures)
 
-pub apply-spec : {M : Type 1} → statement M
-apply-spec =
+pub apply_spec : {M : Type 1} → statement M
+apply_spec =
     tie.close
     (tie.spec
     enum_told

@@ -1,9 +1,9 @@
 -- `lent_slot::by_turn` meets its contract.
 -- Assumes nothing.
 use native.Mathlib.Omega.{arith}
-use Rattle.block.proofs.GoodWords.{block-is, state-is, block_words}
+use Rattle.block.proofs.GoodWords.{block_is, state_is, block_words_lem}
 use Rattle.lent_state.proofs.Uses.{turn_in}
-use Rattle.lent_slot.proofs.Steps.{sent-on}
+use Rattle.lent_slot.proofs.Steps.{sent_on}
 use borrow.Author.Rules.{rules}
 use Rattle.lent_slot.proofs.by_turn.Statement.{statement}
 use Rattle.lent_slot.proofs.by_turn.Tie as tie
@@ -15,7 +15,7 @@ part-next-turn-start : tie.Need-slice-bounds-next-turn-start
 part-next-turn-start c = search rules
 
 part-next-turn-end : tie.Need-slice-bounds-next-turn-end
-part-next-turn-end c = let n = block_words _ c.before.requires in omega arith
+part-next-turn-end c = let n = block_words_lem _ c.before.requires in omega arith
 
 word-at-requires : tie.Need-word-at-requires
 word-at-requires c κs = search rules
@@ -56,7 +56,7 @@ send-requires c κs = search rules
 returns : tie.Need-returns
 returns c =
     let s = c.before.before.before.before.before.before.before in
-    let t = turn_in _ (block-is _ s.requires) _ c.before.before.before.before.word_at.ensures c.before.before.before.next-turn.ensures in
+    let t = turn_in _ (block_is _ s.requires) _ c.before.before.before.before.word_at.ensures c.before.before.before.next-turn.ensures in
     rw (← t, c.before.enum_told.given.1) c.nothing-to-send.ensures
 
 returns-2 : tie.Need-returns-2
@@ -66,12 +66,12 @@ returns-2 c =
     let turn = found.before.before.before in
     let next = turn.before.before in
     let s = next.before.before.before.before in
-    let t = turn_in _ (block-is _ s.requires) _ next.before.word_at.ensures next.next-turn.ensures in
+    let t = turn_in _ (block_is _ s.requires) _ next.before.word_at.ensures next.next-turn.ensures in
     rw (← t, turn.turn.given.1)
-    (sent-on _ (block-is _ s.requires) (state-is _ s.requires) _ _ c.before.before.word-at2.ensures c.before.word-at3.ensures found.find.ensures index.index.ensures c.send.ensures)
+    (sent_on _ (block_is _ s.requires) (state_is _ s.requires) _ _ c.before.before.word-at2.ensures c.before.word-at3.ensures found.find.ensures index.index.ensures c.send.ensures)
 
-pub by-turn-spec : {M : Type 1} → statement M
-by-turn-spec =
+pub by_turn_spec : {M : Type 1} → statement M
+by_turn_spec =
     tie.close
     (tie.spec
     sub-next-turn

@@ -1,7 +1,7 @@
 -- `lent_slot::slot` meets its contract.
 -- Assumes nothing.
 use mathlib.Core.Path.{refl}
-use Rattle.lent_slot.proofs.Steps.{slot-left}
+use Rattle.lent_slot.proofs.Steps.{slot_left}
 use borrow.Author.Rules.{rules}
 use Rattle.lent_slot.proofs.slot.Statement.{statement}
 use Rattle.lent_slot.proofs.slot.Tie as tie
@@ -27,11 +27,11 @@ same-length-2 c = search rules
 returns : tie.Need-returns
 returns c =
     let s = c.before.before.before.before.before.before.before.before.before.before.before.before.before.before.before in
-    let left = slot-left _ (λ i. (c.before.before.before.before.before.before.before.before.before.before.before.before.before.before.slice-known.given i).fits) _ _ _ (c.before.before.before.before.before.before.before.before.before.before.decide.ensures _ _ refl refl) c.before.before.before.before.before.before.before.before.apply.ensures c.before.before.before.before.send-out.ensures c.hand-over.ensures in
+    let left = slot_left _ (λ i. (c.before.before.before.before.before.before.before.before.before.before.before.before.before.before.slice-known.given i).fits) _ _ _ (c.before.before.before.before.before.before.before.before.before.before.decide.ensures _ _ refl refl) c.before.before.before.before.before.before.before.before.apply.ensures c.before.before.before.before.send-out.ensures c.hand-over.ensures in
     left
 
-pub slot-spec : {M : Type 1} → statement M
-slot-spec =
+pub slot_spec : {M : Type 1} → statement M
+slot_spec =
     tie.close
     (tie.spec
     decide-requires

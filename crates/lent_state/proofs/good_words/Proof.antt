@@ -1,13 +1,13 @@
 -- `lent_state::good_words` meets its contract.
 -- Assumes nothing.
-use Rattle.lent_state.proofs.Good.{refused-length}
-use Rattle.lent_state.proofs.Answers.{table_kept, table-refused, words-refused, pools-refused, places-refused, all-passed}
+use Rattle.lent_state.proofs.Good.{refused_length}
+use Rattle.lent_state.proofs.Answers.{table_kept, table_refused, words_refused, pools_refused, places_refused, all_passed}
 use borrow.Author.Rules.{rules}
 use Rattle.lent_state.proofs.good_words.Statement.{statement}
 use Rattle.lent_state.proofs.good_words.Tie as tie
 
 returns : tie.Need-returns
-returns c = refused-length c.before.before.args.b.now c.if1.true
+returns c = refused_length c.before.before.args.b.now c.if1.true
 
 word-at-requires : tie.Need-word-at-requires
 word-at-requires c κs = search rules
@@ -32,7 +32,7 @@ returns-2 c =
     let tw = c.before in
     let wa = tw.before.before in
     let b = wa.before.before.before.args.b.now in
-    table-refused b wa.word_at.result tw.table-words.result wa.word_at.ensures tw.table-words.ensures c.if2.true
+    table_refused b wa.word_at.result tw.table-words.result wa.word_at.ensures tw.table-words.ensures c.if2.true
 
 rights-bounds-requires : tie.Need-rights-bounds-requires
 rights-bounds-requires c κs = search rules
@@ -46,7 +46,7 @@ returns-3 c =
     let tw = rb.before.before in
     let wa = tw.before.before in
     let b = wa.before.before.before.args.b.now in
-    words-refused b wa.word_at.result tw.table-words.result wa.word_at.ensures tw.table-words.ensures _ _ rb.rights-bounds.ensures c.before.word-rules.ensures c.if3.true
+    words_refused b wa.word_at.result tw.table-words.result wa.word_at.ensures tw.table-words.ensures _ _ rb.rights_bounds.ensures c.before.word-rules.ensures c.if3.true
 
 sub-pools-rules : tie.Need-overflow-sub-pools-rules
 sub-pools-rules c = search rules
@@ -70,7 +70,7 @@ returns-4 c =
     let tw = c.before.before.before.before.before.before.before in
     let wa = tw.before.before in
     let b = wa.before.before.before.args.b.now in
-    pools-refused b wa.word_at.result tw.table-words.result wa.word_at.ensures tw.table-words.ensures _ c.before.pools-rules.ensures c.if4.true
+    pools_refused b wa.word_at.result tw.table-words.result wa.word_at.ensures tw.table-words.ensures _ c.before.pools-rules.ensures c.if4.true
 
 sub-places-rules : tie.Need-overflow-sub-places-rules
 sub-places-rules c = search rules
@@ -94,7 +94,7 @@ returns-5 c =
     let tw = c.before.before.before.before.before.before.before.before.before.before in
     let wa = tw.before.before in
     let b = wa.before.before.before.args.b.now in
-    places-refused b wa.word_at.result tw.table-words.result wa.word_at.ensures tw.table-words.ensures _ c.before.places-rules.ensures c.if5.true
+    places_refused b wa.word_at.result tw.table-words.result wa.word_at.ensures tw.table-words.ensures _ c.before.places-rules.ensures c.if5.true
 
 returns-6 : tie.Need-returns-6
 returns-6 c =
@@ -105,12 +105,12 @@ returns-6 c =
     let tw = two.before in
     let wa = tw.before.before in
     let b = wa.before.before.before.args.b.now in
-    all-passed b wa.word_at.result tw.table-words.result wa.word_at.ensures tw.table-words.ensures wa.before.if1.false two.if2.false
-    _ _ rb.rights-bounds.ensures three.before.word-rules.ensures three.if3.false
+    all_passed b wa.word_at.result tw.table-words.result wa.word_at.ensures tw.table-words.ensures wa.before.if1.false two.if2.false
+    _ _ rb.rights_bounds.ensures three.before.word-rules.ensures three.if3.false
     _ four.before.pools-rules.ensures four.if4.false _ c.before.places-rules.ensures c.if5.false
 
-pub good-words-spec : {M : Type 1} → statement M
-good-words-spec =
+pub good_words_spec : {M : Type 1} → statement M
+good_words_spec =
     tie.close
     (tie.spec
     returns

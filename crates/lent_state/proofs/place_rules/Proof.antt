@@ -1,7 +1,7 @@
 -- `lent_state::place_rules` meets its contract.
 -- Assumes nothing.
-use Rattle.block.specs.Blocks.{regionsIn}
-use Rattle.lent_state.proofs.Steps.{place-refused, place-idle, place-busy}
+use Rattle.block.specs.Blocks.{regions_in}
+use Rattle.lent_state.proofs.Steps.{place_refused, place_idle, place_busy}
 use borrow.Author.Rules.{rules}
 use Rattle.lent_state.proofs.place_rules.Statement.{statement}
 use Rattle.lent_state.proofs.place_rules.Tie as tie
@@ -14,7 +14,7 @@ returns c =
     let b = c.before in
     let start = b.before.before.before in
     let a = start.args in
-    place-refused (regionsIn a.rs.now 0) a.n a.ps.now a.i start.requires.2 _ b.place-bounds.ensures c.if1.true
+    place_refused (regions_in a.rs.now 0) a.n a.ps.now a.i start.requires.2 _ b.place_bounds_lem.ensures c.if1.true
 
 context-at-requires : tie.Need-context-at-requires
 context-at-requires c κs = search rules
@@ -37,7 +37,7 @@ returns-2 c =
     let b = k.before.before in
     let start = b.before.before.before in
     let a = start.args in
-    place-idle (regionsIn a.rs.now 0) a.n a.ps.now a.i start.requires.2 _ b.place-bounds.ensures k.before.if1.false
+    place_idle (regions_in a.rs.now 0) a.n a.ps.now a.i start.requires.2 _ b.place_bounds_lem.ensures k.before.if1.false
     _ k.context-at.ensures c.enum_told.given.1
 
 returns-3 : tie.Need-returns-3
@@ -47,11 +47,11 @@ returns-3 c =
     let b = k.before.before in
     let start = b.before.before.before in
     let a = start.args in
-    place-busy (regionsIn a.rs.now 0) a.n a.ps.now a.i start.requires.2 _ b.place-bounds.ensures k.before.if1.false
+    place_busy (regions_in a.rs.now 0) a.n a.ps.now a.i start.requires.2 _ b.place_bounds_lem.ensures k.before.if1.false
     _ k.context-at.ensures _ m.c.given.1 _ c.before.dump-rules.ensures _ c.first-with.ensures
 
-pub place-rules-spec : {M : Type 1} → statement M
-place-rules-spec =
+pub place_rules_spec : {M : Type 1} → statement M
+place_rules_spec =
     tie.close
     (tie.spec
     place-bounds-requires

@@ -1,8 +1,8 @@
 -- `lent_state::pool_rules` meets its contract.
 -- Assumes nothing.
 use mathlib.Core.Path.{◌∙◌}
-use Rattle.block.specs.Blocks.{regionsIn}
-use Rattle.lent_state.proofs.Steps.{pool-none, pool-odd, pool-some}
+use Rattle.block.specs.Blocks.{regions_in}
+use Rattle.lent_state.proofs.Steps.{pool_none, pool_odd, pool_some}
 use borrow.Author.Rules.{rules}
 use Rattle.lent_state.proofs.pool_rules.Statement.{statement}
 use Rattle.lent_state.proofs.pool_rules.Tie as tie
@@ -11,13 +11,13 @@ returns : tie.Need-returns
 returns c =
     let then = c.before in
     let a = then.before.before.before.args in
-    pool-none (regionsIn a.rs.now 0) a.n a.p then.if1.true
+    pool_none (regions_in a.rs.now 0) a.n a.p then.if1.true
 
 returns-2 : tie.Need-returns-2
 returns-2 c =
     let else = c.before.before in
     let a = else.before.before.before.args in
-    pool-odd (regionsIn a.rs.now 0) a.n a.p else.if1.false c.if2.true
+    pool_odd (regions_in a.rs.now 0) a.n a.p else.if1.false c.if2.true
 
 find-region-requires : tie.Need-find-region-requires
 find-region-requires c κs = search rules
@@ -32,7 +32,7 @@ returns-3 c =
     let start = else.before.before.before in
     let a = start.args in
     c.can-dump.ensures
-    ∙ pool-some a.rs.now start.requires.0 a.n start.requires.1 a.p else.if1.false found.before.if2.false _ found.find-region.ensures.0
+    ∙ pool_some a.rs.now start.requires.0 a.n start.requires.1 a.p else.if1.false found.before.if2.false _ found.find-region.ensures.0
 
-pub pool-rules-spec : {M : Type 1} → statement M
-pool-rules-spec = tie.close (tie.spec returns returns-2 find-region-requires can-dump-requires returns-3)
+pub pool_rules_spec : {M : Type 1} → statement M
+pool_rules_spec = tie.close (tie.spec returns returns-2 find-region-requires can-dump-requires returns-3)

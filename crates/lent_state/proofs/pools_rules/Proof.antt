@@ -20,8 +20,8 @@ returns : tie.Need-returns
 returns c =
     rw (c.before.pool-rules.ensures, c.pool-rules2.ensures, c.before.before.before.range-in.ensures, c.before.before.range-in2.ensures)
 
-pub pools-rules-spec : {M : Type 1} → statement M
-pools-rules-spec =
+pub pools_rules_spec : {M : Type 1} → statement M
+pools_rules_spec =
     tie.close
     (tie.spec
     range-in-requires

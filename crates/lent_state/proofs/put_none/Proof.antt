@@ -21,5 +21,5 @@ returns c =
     let start = zeros.before.before.before in
     none_is start.args.b.now start.requires zeros.put-zeros.ensures set.set_word.ensures
 
-pub put-none-spec : {M : Type 1} → statement M
-put-none-spec = tie.close (tie.spec put-zeros-requires set-word-requires same_length returns)
+pub put_none_spec : {M : Type 1} → statement M
+put_none_spec = tie.close (tie.spec put-zeros-requires set-word-requires same_length returns)

@@ -1,7 +1,7 @@
 -- `lent_state::put_table` meets its contract.
 -- Assumes nothing.
 use mathlib.Core.Path.{refl}
-use Rattle.lent_state.proofs.Started.{all-written}
+use Rattle.lent_state.proofs.Started.{all_written}
 use borrow.Author.Rules.{rules}
 use Rattle.lent_state.proofs.put_table.Statement.{statement}
 use Rattle.lent_state.proofs.put_table.Tie as tie
@@ -62,11 +62,11 @@ returns c =
     let first = regions.before.before.before.before.before in
     let unit = first.before.before in
     let start = unit.before.before.before.before in
-    all-written start.args.t.now start.args.b.now start.requires.0 start.requires.1 start.requires.2 _ _ _ unit.before.word_at.ensures unit.word-at2.ensures refl
+    all_written start.args.t.now start.args.b.now start.requires.0 start.requires.1 start.requires.2 _ _ _ unit.before.word_at.ensures unit.word-at2.ensures refl
     _ _ _ _ first.set_word.ensures regions.put-run.ensures.0 pools.put-run2.ensures.0 second.set-word2.ensures
 
-pub put-table-spec : {M : Type 1} → statement M
-put-table-spec =
+pub put_table_spec : {M : Type 1} → statement M
+put_table_spec =
     tie.close
     (tie.spec
     word-at-requires

@@ -48,8 +48,8 @@ returns c =
     let e : l.loop.i ≡ length b = omega arith in
     l.loop.invariant.1 ∙ rw (e, drop-length b) (append-nil (replicate (length b) 0))
 
-pub put-zeros-spec : {M : Type 1} → statement M
-put-zeros-spec =
+pub put_zeros_spec : {M : Type 1} → statement M
+put_zeros_spec =
     tie.close
     (tie.spec
     invariant-loop

@@ -2,13 +2,13 @@
 -- Assumes nothing.
 use mathlib.Core.Path.{sym, ◌∙◌}
 use borrow.Author.Tests.{not-false}
-use Rattle.lent_state.proofs.Started.{count_low, other-state, other-table, not_taken, taken}
+use Rattle.lent_state.proofs.Started.{count_low, other_state, other_table, not_taken, taken}
 use borrow.Author.Rules.{rules}
 use Rattle.lent_state.proofs.start_up.Statement.{statement}
 use Rattle.lent_state.proofs.start_up.Tie as tie
 
 returns : tie.Need-returns
-returns c = other-state _ _ c.if1.true
+returns c = other_state _ _ c.if1.true
 
 put-none-requires : tie.Need-put-none-requires
 put-none-requires c κs = search rules
@@ -21,7 +21,7 @@ returns-2 c =
     let none = c.before.before.before in
     let long = none.before.before in
     let a = long.before.before.before.args in
-    other-table a.t.now a.b.now long.if1.false _ none.put-none.ensures c.if2.true
+    other_table a.t.now a.b.now long.if1.false _ none.put-none.ensures c.if2.true
 
 table-good-requires : tie.Need-table-good-requires
 table-good-requires c κs = search rules
@@ -59,8 +59,8 @@ returns-4 c =
     taken a.t.now a.b.now table.if2.false long.if1.false _ tested.table-good.ensures _ none.put-none.ensures left.if3.false _
     put.put-table.ensures
 
-pub start-up-spec : {M : Type 1} → statement M
-start-up-spec =
+pub start_up_spec : {M : Type 1} → statement M
+start_up_spec =
     tie.close
     (tie.spec
     returns

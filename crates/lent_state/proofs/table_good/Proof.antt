@@ -1,7 +1,7 @@
 -- `lent_state::table_good` meets its contract.
 -- Assumes nothing.
 use mathlib.Core.Path.{◌∙◌}
-use Rattle.lent_state.proofs.Answers.{table_kept, bad-table, bad-words, pools-answer}
+use Rattle.lent_state.proofs.Answers.{table_kept, bad_table, bad_words, pools_answer}
 use borrow.Author.Rules.{rules}
 use Rattle.lent_state.proofs.table_good.Statement.{statement}
 use Rattle.lent_state.proofs.table_good.Tie as tie
@@ -30,7 +30,7 @@ returns c =
     let wa = tw.before.before in
     let start = wa.before.before in
     let t = start.args.t.now in
-    bad-table t start.requires wa.word_at.result tw.table-words.result wa.word_at.ensures tw.table-words.ensures c.if1.true
+    bad_table t start.requires wa.word_at.result tw.table-words.result wa.word_at.ensures tw.table-words.ensures c.if1.true
 
 rights-bounds-requires : tie.Need-rights-bounds-requires
 rights-bounds-requires c κs = search rules
@@ -45,7 +45,7 @@ returns-2 c =
     let wa = tw.before.before in
     let start = wa.before.before in
     let t = start.args.t.now in
-    bad-words t start.requires wa.word_at.result tw.table-words.result wa.word_at.ensures tw.table-words.ensures _ _ rb.rights-bounds.ensures c.before.word-at2.ensures c.if2.true
+    bad_words t start.requires wa.word_at.result tw.table-words.result wa.word_at.ensures tw.table-words.ensures _ _ rb.rights_bounds.ensures c.before.word-at2.ensures c.if2.true
 
 sub-pools-rules : tie.Need-overflow-sub-pools-rules
 sub-pools-rules c = search rules
@@ -75,10 +75,10 @@ returns-3 c =
     let start = wa.before.before in
     let t = start.args.t.now in
     c.pools-rules.ensures
-    ∙ pools-answer t start.requires wa.word_at.result tw.table-words.result wa.word_at.ensures tw.table-words.ensures two.if1.false _ _ rb.rights-bounds.ensures three.before.word-at2.ensures three.if2.false
+    ∙ pools_answer t start.requires wa.word_at.result tw.table-words.result wa.word_at.ensures tw.table-words.ensures two.if1.false _ _ rb.rights_bounds.ensures three.before.word-at2.ensures three.if2.false
 
-pub table-good-spec : {M : Type 1} → statement M
-table-good-spec =
+pub table_good_spec : {M : Type 1} → statement M
+table_good_spec =
     tie.close
     (tie.spec
     word-at-requires

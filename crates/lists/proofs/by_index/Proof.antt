@@ -7,5 +7,5 @@ use Rattle.lists.proofs.by_index.Tie as tie
 returns : tie.Need-returns
 returns c = by_index
 
-pub by-index-spec : {M : Type 1} → statement M
-by-index-spec = tie.close (tie.spec returns)
+pub by_index_spec : {M : Type 1} → statement M
+by_index_spec = tie.close (tie.spec returns)

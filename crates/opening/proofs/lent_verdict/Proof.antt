@@ -16,5 +16,5 @@ returns-3 c = rw (ne_eqb _ _ c.before.before.if1.false, eq-eqb _ _ c.before.if2.
 returns-4 : tie.Need-returns-4
 returns-4 c = rw (ne_eqb _ _ c.before.before.if1.false, eq-eqb _ _ c.before.if2.false, le-ltb _ _ c.if3.false)
 
-pub lent-verdict-spec : {M : Type 1} → statement M
-lent-verdict-spec = tie.close (tie.spec returns returns-2 returns-3 returns-4)
+pub lent_verdict_spec : {M : Type 1} → statement M
+lent_verdict_spec = tie.close (tie.spec returns returns-2 returns-3 returns-4)

@@ -22,5 +22,5 @@ returns c = rw (← c.before.before.before.lent-verdict.ensures, c.before.lent.g
 returns-2 : tie.Need-returns-2
 returns-2 c = rw (← c.before.before.before.lent-verdict.ensures, c.before.enum_told.given.1) c.asked.ensures
 
-pub opened-by-spec : {M : Type 1} → statement M
-opened-by-spec = tie.close (tie.spec lent-verdict-requires enum-known-lent enum_told asked-requires returns returns-2)
+pub opened_by_spec : {M : Type 1} → statement M
+opened_by_spec = tie.close (tie.spec lent-verdict-requires enum-known-lent enum_told asked-requires returns returns-2)

@@ -18,5 +18,5 @@ returns-2 c = simp (eq-eqb _ _ c.before.before.if1.false, ne_eqb _ _ (λ f. c.if
 returns-3 : tie.Need-returns-3
 returns-3 c = simp (eq-eqb _ _ c.before.before.if1.false, eq-eqb _ _ (sym c.before.unit-of.ensures ∙ c.if2.false))
 
-pub checked-spec : {M : Type 1} → statement M
-checked-spec = tie.close (tie.spec returns unit-of-requires returns-2 returns-3)
+pub checked_spec : {M : Type 1} → statement M
+checked_spec = tie.close (tie.spec returns unit-of-requires returns-2 returns-3)

@@ -10,5 +10,5 @@ get16-requires c κs = search rules
 returns : tie.Need-returns
 returns c = rw c.get16.ensures
 
-pub end-is-zero-spec : {M : Type 1} → statement M
-end-is-zero-spec = tie.close (tie.spec get16-requires returns)
+pub end_is_zero_spec : {M : Type 1} → statement M
+end_is_zero_spec = tie.close (tie.spec get16-requires returns)

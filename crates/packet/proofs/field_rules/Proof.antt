@@ -1,6 +1,6 @@
 -- `packet::field_rules` meets its contract.
 -- Assumes nothing.
-use Rattle.rules.specs.Packets.{fieldRules}
+use Rattle.rules.specs.Packets.{field_rules}
 use borrow.Author.Rules.{rules}
 use Rattle.packet.proofs.field_rules.Statement.{statement}
 use Rattle.packet.proofs.field_rules.Tie as tie
@@ -39,31 +39,31 @@ name-fits-requires-2 : tie.Need-name-fits-requires-2
 name-fits-requires-2 c κs = search rules
 
 returns : tie.Need-returns
-unfolding fieldRules
+unfolding field_rules
 returns c = rw c.before.before.k.given.1 c.dump-rules.ensures
 
 returns-2 : tie.Need-returns-2
-unfolding fieldRules
+unfolding field_rules
 returns-2 c = rw c.enum_told.given.1
 
 returns-3 : tie.Need-returns-3
-unfolding fieldRules
+unfolding field_rules
 returns-3 c = rw c.before.before.k2.given.1 c.load-rules.ensures
 
 returns-4 : tie.Need-returns-4
-unfolding fieldRules
+unfolding field_rules
 returns-4 c = rw c.before.before.k3.given.1 c.pool-rules.ensures
 
 returns-5 : tie.Need-returns-5
-unfolding fieldRules
+unfolding field_rules
 returns-5 c = rw (c.before.before.k4.given.1, c.name-fits.ensures)
 
 returns-6 : tie.Need-returns-6
-unfolding fieldRules
+unfolding field_rules
 returns-6 c = rw (c.before.before.before.k5.given.1, c.before.name-fits2.ensures)
 
-pub field-rules-spec : {M : Type 1} → statement M
-field-rules-spec =
+pub field_rules_spec : {M : Type 1} → statement M
+field_rules_spec =
     tie.close
     (tie.spec
     enum-known-k

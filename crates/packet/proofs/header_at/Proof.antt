@@ -16,5 +16,5 @@ cast-t7 c = search rules
 returns : tie.Need-returns
 returns c = rw (c.before.get16.ensures, c.get162.ensures)
 
-pub header-at-spec : {M : Type 1} → statement M
-header-at-spec = tie.close (tie.spec get16-requires get16-requires-2 cast-t7 returns)
+pub header_at_spec : {M : Type 1} → statement M
+header_at_spec = tie.close (tie.spec get16-requires get16-requires-2 cast-t7 returns)

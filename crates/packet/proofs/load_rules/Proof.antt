@@ -10,5 +10,5 @@ dump-rules-requires c κs = search rules
 returns : tie.Need-returns
 returns c = rw c.dump-rules.ensures
 
-pub load-rules-spec : {M : Type 1} → statement M
-load-rules-spec = tie.close (tie.spec dump-rules-requires returns)
+pub load_rules_spec : {M : Type 1} → statement M
+load_rules_spec = tie.close (tie.spec dump-rules-requires returns)

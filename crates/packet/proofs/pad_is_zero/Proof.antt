@@ -10,5 +10,5 @@ byte-at-requires c κs = search rules
 returns : tie.Need-returns
 returns c = rw c.byte_at.ensures
 
-pub pad-is-zero-spec : {M : Type 1} → statement M
-pad-is-zero-spec = tie.close (tie.spec byte-at-requires returns)
+pub pad_is_zero_spec : {M : Type 1} → statement M
+pad_is_zero_spec = tie.close (tie.spec byte-at-requires returns)

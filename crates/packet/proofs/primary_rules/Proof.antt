@@ -1,7 +1,7 @@
 -- `packet::primary_rules` meets its contract.
 -- Assumes nothing.
 use Rattle.wire.specs.Bytes.{AreBytes}
-use Rattle.packet.proofs.Header.{no_header, version-by-word, type-by-word, second-by-word, flags-by-word}
+use Rattle.packet.proofs.Header.{no_header, version_by_word, type_by_word, second_by_word, flags_by_word}
 use borrow.Author.Rules.{rules}
 use Rattle.packet.proofs.primary_rules.Statement.{statement}
 use Rattle.packet.proofs.primary_rules.Tie as tie
@@ -29,8 +29,8 @@ returns-2 c =
     let bytes : AreBytes p = λ i. (known.shared-slice-known.given i).fits in
     let w = word.read32.result in
     let e = word.read32.ensures in
-    rw (← version-by-word p bytes w e, ← type-by-word p bytes w e, ← second-by-word p bytes w e, ← flags-by-word p bytes w e, c.read16.ensures)
+    rw (← version_by_word p bytes w e, ← type_by_word p bytes w e, ← second_by_word p bytes w e, ← flags_by_word p bytes w e, c.read16.ensures)
 
-pub primary-rules-spec : {M : Type 1} → statement M
-primary-rules-spec =
+pub primary_rules_spec : {M : Type 1} → statement M
+primary_rules_spec =
     tie.close (tie.spec returns read32-requires read16-requires cast-result add-result returns-2)

@@ -13,5 +13,5 @@ get32-requires c κs = search rules
 returns : tie.Need-returns
 returns c = rw (c.before.get16.ensures, c.get32.ensures)
 
-pub request-in-spec : {M : Type 1} → statement M
-request-in-spec = tie.close (tie.spec get16-requires get32-requires returns)
+pub request_in_spec : {M : Type 1} → statement M
+request_in_spec = tie.close (tie.spec get16-requires get32-requires returns)

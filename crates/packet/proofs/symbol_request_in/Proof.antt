@@ -16,6 +16,6 @@ get16-requires c κs = search rules
 returns : tie.Need-returns
 returns c = rw (c.before.before.byte_at.ensures, c.before.get32.ensures, c.get16.ensures)
 
-pub symbol-request-in-spec : {M : Type 1} → statement M
-symbol-request-in-spec =
+pub symbol_request_in_spec : {M : Type 1} → statement M
+symbol_request_in_spec =
     tie.close (tie.spec byte-at-requires get32-requires get16-requires returns)

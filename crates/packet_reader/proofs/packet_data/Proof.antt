@@ -2,7 +2,7 @@
 -- Assumes nothing.
 use native.Mathlib.Omega.{arith}
 use mathlib.Core.Path.{sym, ◌∙◌}
-use Rattle.packet_reader.proofs.Steps.{refused-part, accepted-part, data-part}
+use Rattle.packet_reader.proofs.Steps.{refused_part, accepted_part, data_part}
 use borrow.Author.Rules.{rules}
 use Rattle.packet_reader.proofs.packet_data.Statement.{statement}
 use Rattle.packet_reader.proofs.packet_data.Tie as tie
@@ -26,22 +26,22 @@ enum-told-2 : tie.Need-enum-told-2
 enum-told-2 c = search rules
 
 sub-result-2 : tie.Need-overflow-sub-result-2
-sub-result-2 c = let h = (accepted-part _ _ (sym c.before.before.read-packet.ensures ∙ c.enum-told2.given.1)).0 in omega arith
+sub-result-2 c = let h = (accepted_part _ _ (sym c.before.before.read-packet.ensures ∙ c.enum-told2.given.1)).0 in omega arith
 
 part-result-start-2 : tie.Need-slice-bounds-result-start-2
-part-result-start-2 c = let h = (accepted-part _ _ (sym c.before.before.read-packet.ensures ∙ c.enum-told2.given.1)).0 in omega arith
+part-result-start-2 c = let h = (accepted_part _ _ (sym c.before.before.read-packet.ensures ∙ c.enum-told2.given.1)).0 in omega arith
 
 part-result-end-2 : tie.Need-slice-bounds-result-end-2
 part-result-end-2 c = search rules
 
 returns : tie.Need-returns
-returns c = sym (refused-part _ _ (sym c.before.before.before.read-packet.ensures ∙ c.before.enum_told.given.1))
+returns c = sym (refused_part _ _ (sym c.before.before.before.read-packet.ensures ∙ c.before.enum_told.given.1))
 
 returns-2 : tie.Need-returns-2
-returns-2 c = data-part _ _ (sym c.before.before.before.read-packet.ensures ∙ c.before.enum-told2.given.1)
+returns-2 c = data_part _ _ (sym c.before.before.before.read-packet.ensures ∙ c.before.enum-told2.given.1)
 
-pub packet-data-spec : {M : Type 1} → statement M
-packet-data-spec =
+pub packet_data_spec : {M : Type 1} → statement M
+packet_data_spec =
     tie.close
     (tie.spec
     read-packet-requires

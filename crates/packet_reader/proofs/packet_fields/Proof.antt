@@ -25,8 +25,8 @@ read32-requires-5 c κs = search rules
 returns : tie.Need-returns
 returns c = cc
 
-pub packet-fields-spec : {M : Type 1} → statement M
-packet-fields-spec =
+pub packet_fields_spec : {M : Type 1} → statement M
+packet_fields_spec =
     tie.close
     (tie.spec
     header-at-requires

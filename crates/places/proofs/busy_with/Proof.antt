@@ -16,5 +16,5 @@ returns c = search rules
 returns-2 : tie.Need-returns-2
 returns-2 c = rw c.before.before.a.given.1
 
-pub busy-with-spec : {M : Type 1} → statement M
-busy-with-spec = tie.close (tie.spec enum_told enum-known-a returns returns-2)
+pub busy_with_spec : {M : Type 1} → statement M
+busy_with_spec = tie.close (tie.spec enum_told enum-known-a returns returns-2)

@@ -5,15 +5,15 @@ use mathlib.Core.Bool.{false}
 use mathlib.Core.Path.{◌≡◌, refl, sym, ◌∙◌}
 use native.Mathlib.Omega.{arith}
 use borrow.Author.Rules.{rules}
-use Rattle.lists.specs.Below.{anyBelow}
-use Rattle.rules.specs.States.{contextAt}
-use Rattle.rules.specs.Commands.{isIdle, firstIdle}
-use Rattle.places.proofs.Steps.{go_on, stop-here, none_left}
+use Rattle.lists.specs.Below.{any_below}
+use Rattle.rules.specs.States.{context_at}
+use Rattle.rules.specs.Commands.{is_idle, first_idle}
+use Rattle.places.proofs.Steps.{go_on, stop_here, none_left}
 use Rattle.places.proofs.first_idle.Statement.{statement}
 use Rattle.places.proofs.first_idle.Tie as tie
 
 abbrev invariant-loop : tie.invariant-loop
-invariant-loop ps i₀ i = (i ≤ 4) × (anyBelow (λ j. isIdle (contextAt ps j)) i ≡ false)
+invariant-loop ps i₀ i = (i ≤ 4) × (any_below (λ j. is_idle (context_at ps j)) i ≡ false)
 
 abbrev decreases-loop : tie.decreases-loop
 decreases-loop ps i₀ i = 4 - i
@@ -28,11 +28,11 @@ is-idle-requires : tie.Need-is-idle-requires invariant-loop decreases-loop
 is-idle-requires c κs = search rules
 
 returns : tie.Need-returns invariant-loop decreases-loop
-unfolding firstIdle
+unfolding first_idle
 returns c =
     let l = c.before.before.before.before.loop in
     let e = rw c.before.before.context-at.ensures at c.before.is-idle.ensures in
-    stop-here _ l.i l.invariant.1 4 (omega arith) (sym e ∙ c.if1.true)
+    stop_here _ l.i l.invariant.1 4 (omega arith) (sym e ∙ c.if1.true)
 
 add-i : tie.Need-overflow-add-i invariant-loop decreases-loop
 add-i c = omega arith
@@ -47,11 +47,11 @@ loop-again c =
     (omega arith, go_on _ l.i l.invariant.1 (sym e ∙ c.if1.false))
 
 returns-2 : tie.Need-returns-2 invariant-loop decreases-loop
-unfolding firstIdle
+unfolding first_idle
 returns-2 c = let l = c.before.loop in none_left _ l.i l.invariant.1 4 (omega arith)
 
-pub first-idle-spec : {M : Type 1} → statement M
-first-idle-spec =
+pub first_idle_spec : {M : Type 1} → statement M
+first_idle_spec =
     tie.close
     (tie.spec
     invariant-loop

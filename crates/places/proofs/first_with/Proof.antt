@@ -5,15 +5,15 @@ use mathlib.Core.Bool.{false}
 use mathlib.Core.Path.{◌≡◌, refl, sym, ◌∙◌}
 use native.Mathlib.Omega.{arith}
 use borrow.Author.Rules.{rules}
-use Rattle.lists.specs.Below.{anyBelow}
-use Rattle.rules.specs.States.{contextAt, busyWith}
-use Rattle.places.specs.Turns.{firstWithin}
-use Rattle.places.proofs.Steps.{go_on, stop-here, none_left}
+use Rattle.lists.specs.Below.{any_below}
+use Rattle.rules.specs.States.{context_at, busy_with}
+use Rattle.places.specs.Turns.{first_within}
+use Rattle.places.proofs.Steps.{go_on, stop_here, none_left}
 use Rattle.places.proofs.first_with.Statement.{statement}
 use Rattle.places.proofs.first_with.Tie as tie
 
 abbrev invariant-loop : tie.invariant-loop
-invariant-loop ps t k i₀ i = (i ≤ k) × (anyBelow (λ j. busyWith t (contextAt ps j)) i ≡ false)
+invariant-loop ps t k i₀ i = (i ≤ k) × (any_below (λ j. busy_with t (context_at ps j)) i ≡ false)
 
 abbrev decreases-loop : tie.decreases-loop
 decreases-loop ps t k i₀ i = k - i
@@ -28,11 +28,11 @@ busy-with-requires : tie.Need-busy-with-requires invariant-loop decreases-loop
 busy-with-requires c κs = search rules
 
 returns : tie.Need-returns invariant-loop decreases-loop
-unfolding firstWithin
+unfolding first_within
 returns c =
     let l = c.before.before.before.before.loop in
     let e = rw c.before.before.context-at.ensures at c.before.busy-with.ensures in
-    stop-here _ l.i l.invariant.1 _ c.before.before.before.loop-test.true (sym e ∙ c.if1.true)
+    stop_here _ l.i l.invariant.1 _ c.before.before.before.loop-test.true (sym e ∙ c.if1.true)
 
 add-i : tie.Need-overflow-add-i invariant-loop decreases-loop
 add-i c = omega arith
@@ -47,11 +47,11 @@ loop-again c =
     (omega arith, go_on _ l.i l.invariant.1 (sym e ∙ c.if1.false))
 
 returns-2 : tie.Need-returns-2 invariant-loop decreases-loop
-unfolding firstWithin
+unfolding first_within
 returns-2 c = let l = c.before.loop in none_left _ l.i l.invariant.1 c.before.before.args.k (omega arith)
 
-pub first-with-spec : {M : Type 1} → statement M
-first-with-spec =
+pub first_with_spec : {M : Type 1} → statement M
+first_with_spec =
     tie.close
     (tie.spec
     invariant-loop

@@ -5,15 +5,15 @@ use mathlib.Core.Bool.{false}
 use mathlib.Core.Path.{◌≡◌, refl}
 use native.Mathlib.Omega.{arith}
 use borrow.Author.Rules.{rules}
-use Rattle.lists.specs.Below.{anyBelow}
-use Rattle.rules.specs.States.{contextAt}
-use Rattle.rules.specs.Slots.{isBusy, placeAfter}
-use Rattle.places.proofs.Steps.{stop-at, go-round, all-idle}
+use Rattle.lists.specs.Below.{any_below}
+use Rattle.rules.specs.States.{context_at}
+use Rattle.rules.specs.Slots.{is_busy, place_after}
+use Rattle.places.proofs.Steps.{stop_at, go_round, all_idle}
 use Rattle.places.proofs.next_place.Statement.{statement}
 use Rattle.places.proofs.next_place.Tie as tie
 
 abbrev invariant-loop : tie.invariant-loop
-invariant-loop ps last from k₀ k = (k ≤ 4) × (anyBelow (λ j. isBusy (contextAt ps (placeAfter last j))) k ≡ false)
+invariant-loop ps last from k₀ k = (k ≤ 4) × (any_below (λ j. is_busy (context_at ps (place_after last j))) k ≡ false)
 
 abbrev decreases-loop : tie.decreases-loop
 decreases-loop ps last from k₀ k = 4 - k
@@ -37,7 +37,7 @@ returns : tie.Need-returns invariant-loop decreases-loop
 returns c =
     let l = c.before.before.before.before.loop in
     let e = rw c.before.before.context-at.ensures at c.before.is-idle.ensures in
-    stop-at _ _ l.k l.invariant.1 _ e (omega arith) c.if1.true
+    stop_at _ _ l.k l.invariant.1 _ e (omega arith) c.if1.true
 
 add-k : tie.Need-overflow-add-k invariant-loop decreases-loop
 add-k c = omega arith
@@ -50,16 +50,16 @@ loop-again c =
     let l = c.before.before.before.before.loop in
     let a = c.before.before.before.before.before.args in
     let e = rw c.before.before.context-at.ensures at c.before.is-idle.ensures in
-    (omega arith, go-round a.ps a.last l.k l.invariant.1 _ e c.if1.false)
+    (omega arith, go_round a.ps a.last l.k l.invariant.1 _ e c.if1.false)
 
 add-result : tie.Need-overflow-add-result invariant-loop decreases-loop
 add-result c = omega arith
 
 returns-2 : tie.Need-returns-2 invariant-loop decreases-loop
-returns-2 c = let l = c.before.loop in all-idle _ _ l.k l.invariant.1 (omega arith)
+returns-2 c = let l = c.before.loop in all_idle _ _ l.k l.invariant.1 (omega arith)
 
-pub next-place-spec : {M : Type 1} → statement M
-next-place-spec =
+pub next_place_spec : {M : Type 1} → statement M
+next_place_spec =
     tie.close
     (tie.spec
     invariant-loop

@@ -20,8 +20,8 @@ returns : tie.Need-returns
 returns c = search rules
 
 returns-2 : tie.Need-returns-2
-returns-2 c = let f = c.before.four-places.ensures in sym (set_out _ _ _ (omega arith))
+returns-2 c = let f = c.before.four_places.ensures in sym (set_out _ _ _ (omega arith))
 
-pub set-context-spec : {M : Type 1} → statement M
-set-context-spec =
+pub set_context_spec : {M : Type 1} → statement M
+set_context_spec =
     tie.close (tie.spec four-places-requires mul-qs array-set-from-qs returns returns-2)

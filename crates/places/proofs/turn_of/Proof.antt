@@ -16,5 +16,5 @@ returns c = search rules
 returns-2 : tie.Need-returns-2
 returns-2 c = rw c.before.a.given.1
 
-pub turn-of-spec : {M : Type 1} → statement M
-turn-of-spec = tie.close (tie.spec enum_told enum-known-a returns returns-2)
+pub turn_of_spec : {M : Type 1} → statement M
+turn_of_spec = tie.close (tie.spec enum_told enum-known-a returns returns-2)

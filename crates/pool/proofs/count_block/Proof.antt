@@ -8,7 +8,7 @@ use native.Mathlib.Omega.{arith}
 use lib.Dec.{leb}
 use borrow.Author.Rules.{rules}
 use Rattle.pool.specs.Answers.{tallied}
-use Rattle.pool.proofs.Blocks.{same-tally}
+use Rattle.pool.proofs.Blocks.{same_tally}
 use Rattle.pool.proofs.count_block.Statement.{statement}
 use Rattle.pool.proofs.count_block.Tie as tie
 
@@ -37,9 +37,9 @@ returns c =
     let args = met.before.before.before.args in
     let free = cond (not (leb 2147483648 args.w)) (args.w % 2147483648) 0 in
     let m : met.if1.largest ≡ max args.t.largest free = ⊎_elim (λ u. omega arith) (λ u. omega arith) met.if1.branch in
-    same-tally (omega arith)
+    same_tally (omega arith)
 
-pub count-block-spec : {M : Type 1} → statement M
-count-block-spec =
+pub count_block_spec : {M : Type 1} → statement M
+count_block_spec =
     tie.close
     (tie.spec cast-size picked-requires picked-requires-2 add-t10 add-t11 add-t12 returns)

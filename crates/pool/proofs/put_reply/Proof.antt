@@ -26,8 +26,8 @@ returns c =
     let reply = words.before.before.args.reply.now in
     (λ h. put.put-words.ensures.0 (omega arith) ∙ ap (splice reply 0) words.reply-words.ensures, λ s. put.put-words.ensures.1 (omega arith))
 
-pub put-reply-spec : {M : Type 1} → statement M
-put-reply-spec =
+pub put_reply_spec : {M : Type 1} → statement M
+put_reply_spec =
     tie.close
     (tie.spec
     reply-words-requires

@@ -2,7 +2,7 @@
 -- Assumes nothing.
 use native.Mathlib.Omega.{arith}
 use Prim.Native.Nat.{◌%◌}
-use Rattle.pool.proofs.ReplyBytes.{reply-as-words}
+use Rattle.pool.proofs.ReplyBytes.{reply_as_words}
 use borrow.Author.Rules.{rules}
 use Rattle.pool.proofs.reply_words.Statement.{statement}
 use Rattle.pool.proofs.reply_words.Tie as tie
@@ -58,10 +58,10 @@ cast-t25 c = search rules
 returns : tie.Need-returns
 returns c =
     let a = c.before.before.before.before.before.args in
-    reply-as-words (a.count % 16384) (a.unit % 16) (a.transaction % 4096) a.pool a.f (omega arith) (omega arith)
+    reply_as_words (a.count % 16384) (a.unit % 16) (a.transaction % 4096) a.pool a.f (omega arith) (omega arith)
 
-pub reply-words-spec : {M : Type 1} → statement M
-reply-words-spec =
+pub reply_words_spec : {M : Type 1} → statement M
+reply_words_spec =
     tie.close
     (tie.spec
     cast-sequence

@@ -13,5 +13,5 @@ sub-result c = omega arith
 returns-2 : tie.Need-returns-2
 returns-2 c = omega arith
 
-pub usable-words-spec : {M : Type 1} → statement M
-usable-words-spec = tie.close (tie.spec returns sub-result returns-2)
+pub usable_words_spec : {M : Type 1} → statement M
+usable_words_spec = tie.close (tie.spec returns sub-result returns-2)

@@ -5,21 +5,21 @@ use mathlib.Core.Path.{◌≡◌, sym, ◌∙◌}
 use Prim.Native.Nat.{◌-◌, ◌≤◌}
 use native.Mathlib.Omega.{arith}
 use lib.ListN.{length, drop, get_or}
-use Rattle.rules.specs.Pools.{block_of, blocks_from, blocksOf}
-use Rattle.pool.specs.Answers.{walkedOf}
-use Rattle.pool.proofs.Blocks.{told, told-next, tallied-words, tallied-blocks, joined, joined-start, joined_end, joined-zero, joined-out, joined-next}
+use Rattle.rules.specs.Pools.{block_of, blocks_from, blocks_of}
+use Rattle.pool.specs.Answers.{walked_of}
+use Rattle.pool.proofs.Blocks.{told, told_next, tallied_words, tallied_blocks, joined, joined_start, joined_end, joined_zero, joined_out, joined_next}
 use Rattle.pool.proofs.walk_pool.Statement.{statement}
 use Rattle.pool.proofs.walk_pool.Tie as tie
 
 abbrev invariant-loop : tie.invariant-loop
 invariant-loop pool t₀ at₀ t at =
-    (at ≤ length pool) × (t.free ≤ at) × (t.freeblocks ≤ t.blocks) × (t.blocks ≤ at) × (joined (told t at) (blocks_from 0 (drop at pool)) ≡ walkedOf (blocksOf pool))
+    (at ≤ length pool) × (t.free ≤ at) × (t.freeblocks ≤ t.blocks) × (t.blocks ≤ at) × (joined (told t at) (blocks_from 0 (drop at pool)) ≡ walked_of (blocks_of pool))
 
 abbrev decreases-loop : tie.decreases-loop
 decreases-loop pool t₀ at₀ t at = length pool - at
 
 loop-holds : tie.Need-loop-init invariant-loop decreases-loop
-loop-holds c = (omega arith, omega arith, omega arith, omega arith, joined-start (blocksOf c.before.args.pool.now))
+loop-holds c = (omega arith, omega arith, omega arith, omega arith, joined_start (blocks_of c.before.args.pool.now))
 
 mul-w : tie.Need-overflow-mul-w invariant-loop decreases-loop
 mul-w c = search rules
@@ -33,7 +33,7 @@ cast-size c = search rules
 returns : tie.Need-returns invariant-loop decreases-loop
 returns c =
     let l = c.before.before.before in
-    sym (joined-zero (told l.loop.t l.loop.at) l.before.before.args.pool.now l.loop.at (omega arith) (omega arith)) ∙ l.loop.invariant.4
+    sym (joined_zero (told l.loop.t l.loop.at) l.before.before.args.pool.now l.loop.at (omega arith) (omega arith)) ∙ l.loop.invariant.4
 
 sub-if2 : tie.Need-overflow-sub-if2 invariant-loop decreases-loop
 sub-if2 c = search rules
@@ -41,7 +41,7 @@ sub-if2 c = search rules
 returns-2 : tie.Need-returns-2 invariant-loop decreases-loop
 returns-2 c =
     let l = c.before.before.before.before in
-    sym (joined-out (told l.loop.t l.loop.at) l.before.before.args.pool.now l.loop.at (omega arith) (omega arith) (omega arith))
+    sym (joined_out (told l.loop.t l.loop.at) l.before.before.args.pool.now l.loop.at (omega arith) (omega arith) (omega arith))
     ∙ l.loop.invariant.4
 
 count-block-requires : tie.Need-count-block-requires invariant-loop decreases-loop
@@ -60,14 +60,14 @@ loop-again c =
     let t = l.loop.t in
     let at = l.loop.at in
     let b = block_of (get_or pool at 0) in
-    let words = tallied-words t b at (omega arith) (omega arith) in
-    let blocks = tallied-blocks t b at (omega arith) (omega arith) in
-    let next = joined-next (told t at) pool at (omega arith) (omega arith) (omega arith) in (
+    let words = tallied_words t b at (omega arith) (omega arith) in
+    let blocks = tallied_blocks t b at (omega arith) (omega arith) in
+    let next = joined_next (told t at) pool at (omega arith) (omega arith) (omega arith) in (
       search rules,
       rw c.count-block.ensures (omega arith),
       rw c.count-block.ensures (omega arith),
       rw c.count-block.ensures (omega arith),
-      rw (c.count-block.ensures, told-next t b at (omega arith) (omega arith)) (sym next ∙ l.loop.invariant.4),
+      rw (c.count-block.ensures, told_next t b at (omega arith) (omega arith)) (sym next ∙ l.loop.invariant.4),
     )
 
 usable-words-requires : tie.Need-usable-words-requires invariant-loop decreases-loop
@@ -86,8 +86,8 @@ returns-3 c =
     rw walked.usable-words.ensures
     (sym (joined_end (told l.loop.t l.loop.at) l.before.before.args.pool.now l.loop.at (omega arith)) ∙ l.loop.invariant.4)
 
-pub walk-pool-spec : {M : Type 1} → statement M
-walk-pool-spec =
+pub walk_pool_spec : {M : Type 1} → statement M
+walk_pool_spec =
     tie.close
     (tie.spec
     invariant-loop

@@ -7,5 +7,5 @@ use Rattle.regions.proofs.first_word.Tie as tie
 returns : tie.Need-returns
 returns c = refl
 
-pub first-word-spec : {M : Type 1} → statement M
-first-word-spec = tie.close (tie.spec returns)
+pub first_word_spec : {M : Type 1} → statement M
+first_word_spec = tie.close (tie.spec returns)

@@ -11,5 +11,5 @@ end-of-requires c κs = search rules
 returns : tie.Need-returns
 returns c = rw c.end_of_lem.ensures refl
 
-pub is-holding-spec : {M : Type 1} → statement M
-is-holding-spec = tie.close (tie.spec end-of-requires returns)
+pub is_holding_spec : {M : Type 1} → statement M
+is_holding_spec = tie.close (tie.spec end-of-requires returns)

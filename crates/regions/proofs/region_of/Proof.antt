@@ -5,14 +5,14 @@ use mathlib.Core.Path.{sym, ◌∙◌}
 use mathlib.Core.Logic.{⊎_elim}
 use Prim.Native.Nat.{◌≤◌}
 use native.Mathlib.Omega.{arith}
-use Rattle.regions.proofs.InOrder.{at-most-five}
-use Rattle.regions.proofs.Steps.{falls-short, Left, all_left, half-left, on-short, on-long, one_left, all-counted, count_low, compared_is, region-held, region-none}
+use Rattle.regions.proofs.InOrder.{at_most_five}
+use Rattle.regions.proofs.Steps.{falls_short, Left, all_left, half_left, on_short, on_long, one_left_lem, all_counted, count_low, compared_is, region_held, region_none}
 use Rattle.regions.proofs.region_of.Statement.{statement}
 use Rattle.regions.proofs.region_of.Tie as tie
 
 abbrev invariant-loop : tie.invariant-loop
 invariant-loop n rs m from end first₀ left₀ compared₀ first left compared =
-    (m ≤ 16) × Left (falls-short rs end) m first left compared
+    (m ≤ 16) × Left (falls_short rs end) m first left compared
 
 abbrev decreases-loop : tie.decreases-loop
 decreases-loop n rs m from end first₀ left₀ compared₀ first left compared = left
@@ -66,8 +66,8 @@ loop-again c =
     let rs = l.before.before.before.args.t1 in
     let e = c.before.end-of2.ensures in (
       l.loop.invariant.0,
-      half-left _ _ first left _ l.loop.invariant.1 c.before.before.before.loop-test.true _
-          (⊎_elim (λ x. x.1 ∙ on-short rs _ first left _ e x.0.taken) (λ x. x.1 ∙ on-long rs _ first left _ e x.0.left) c.if1.branch),
+      half_left _ _ first left _ l.loop.invariant.1 c.before.before.before.loop-test.true _
+          (⊎_elim (λ x. x.1 ∙ on_short rs _ first left _ e x.0.taken) (λ x. x.1 ∙ on_long rs _ first left _ e x.0.left) c.if1.branch),
     )
 
 mul-r : tie.Need-overflow-mul-r invariant-loop decreases-loop
@@ -85,11 +85,11 @@ returns c =
     let a = l.before.before.before.before.args in
     let end = l.before.before.end_of_lem.ensures in
     let w = l.before.loop.invariant.1 in
-    let k = one_left _ _ _ _ _ w l.loop-test.false in
+    let k = one_left_lem _ _ _ _ _ w l.loop-test.false in
     rw (← l.before.before.before.entries.ensures) (
-      region-held a.t1 _ a.a _ end _ k (sym c.before.is-holding.ensures ∙ c.if2.true),
-      compared_is a.t1 _ a.a _ end (all-counted _ _ _ _ _ w l.loop-test.false),
-      at-most-five _ _ _,
+      region_held a.t1 _ a.a _ end _ k (sym c.before.is-holding.ensures ∙ c.if2.true),
+      compared_is a.t1 _ a.a _ end (all_counted _ _ _ _ _ w l.loop-test.false),
+      at_most_five _ _ _,
     )
 
 returns-2 : tie.Need-returns-2 invariant-loop decreases-loop
@@ -98,15 +98,15 @@ returns-2 c =
     let a = l.before.before.before.before.args in
     let end = l.before.before.end_of_lem.ensures in
     let w = l.before.loop.invariant.1 in
-    let k = one_left _ _ _ _ _ w l.loop-test.false in
+    let k = one_left_lem _ _ _ _ _ w l.loop-test.false in
     rw (← l.before.before.before.entries.ensures) (
-      region-none a.t1 _ a.a _ end _ k (sym c.before.is-holding.ensures ∙ c.if2.false),
-      compared_is a.t1 _ a.a _ end (all-counted _ _ _ _ _ w l.loop-test.false),
-      at-most-five _ _ _,
+      region_none a.t1 _ a.a _ end _ k (sym c.before.is-holding.ensures ∙ c.if2.false),
+      compared_is a.t1 _ a.a _ end (all_counted _ _ _ _ _ w l.loop-test.false),
+      at_most_five _ _ _,
     )
 
-pub region-of-spec : {M : Type 1} → statement M
-region-of-spec =
+pub region_of_spec : {M : Type 1} → statement M
+region_of_spec =
     tie.close
     (tie.spec
     invariant-loop

@@ -10,5 +10,5 @@ end-of-requires c κs = search rules
 returns : tie.Need-returns
 returns c = rw c.end_of_lem.ensures
 
-pub region-rules-spec : {M : Type 1} → statement M
-region-rules-spec = tie.close (tie.spec end-of-requires returns)
+pub region_rules_spec : {M : Type 1} → statement M
+region_rules_spec = tie.close (tie.spec end-of-requires returns)

@@ -1,13 +1,13 @@
 -- `regions::search_examples` computes the examples of the search.
 -- Assumes nothing.
 use mathlib.Core.Path.{refl}
-use Rattle.rules.specs.Regions.{tableRules, wordsBelow, regionOf}
-use Rattle.regions.specs.Halving.{findByHalving, regionByHalving, compared, candidate, oneLeft, comparisons}
+use Rattle.rules.specs.Regions.{table_rules, words_below, region_of}
+use Rattle.regions.specs.Halving.{find_by_halving, region_by_halving, compared, candidate, one_left, comparisons}
 use Rattle.regions.proofs.search_examples.Statement.{statement}
 use Rattle.regions.proofs.search_examples.Tie as tie
 
 returns : tie.Need-returns
-unfolding findByHalving wordsBelow regionByHalving compared candidate oneLeft comparisons tableRules regionOf
+unfolding find_by_halving words_below region_by_halving compared candidate one_left comparisons table_rules region_of
 returns c =
     record {
       whole = refl;
@@ -17,15 +17,15 @@ returns c =
       outside = refl;
       found = refl;
       index = refl;
-      runs-out = refl;
-      starts-outside = refl;
-      with-region-0 = refl;
-      with-region-10 = refl;
-      with-region-15 = refl;
+      runs_out_lem = refl;
+      starts_outside = refl;
+      with_region_0 = refl;
+      with_region_10 = refl;
+      with_region_15 = refl;
       of_one = refl;
       of_three = refl;
-      not-in-order = (refl, refl, refl);
+      not_in_order = (refl, refl, refl);
     }
 
-pub search-examples-spec : {M : Type 1} → statement M
-search-examples-spec = tie.close (tie.spec returns)
+pub search_examples_spec : {M : Type 1} → statement M
+search_examples_spec = tie.close (tie.spec returns)

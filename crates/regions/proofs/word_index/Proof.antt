@@ -33,8 +33,8 @@ returns-2 c =
     let a = low.before.args in
     indexed a.t1 a.a a.k _ (rw (lt-ltb a.k 16 low.if1.false, c.before.words-below.ensures.0, c.words-before.ensures))
 
-pub word-index-spec : {M : Type 1} → statement M
-word-index-spec =
+pub word_index_spec : {M : Type 1} → statement M
+word_index_spec =
     tie.close
     (tie.spec
     returns

@@ -3,20 +3,20 @@
 use mathlib.Core.Path.{◌≡◌}
 use Prim.Native.Nat.{◌*◌, ◌-◌, ◌≤◌}
 use native.Mathlib.Omega.{arith}
-use Rattle.rules.specs.Regions.{wordsBelow}
+use Rattle.rules.specs.Regions.{words_below}
 use Rattle.regions.proofs.Steps.{words_more}
 use borrow.Author.Rules.{rules}
 use Rattle.regions.proofs.words_below.Statement.{statement}
 use Rattle.regions.proofs.words_below.Tie as tie
 
 abbrev invariant-loop : tie.invariant-loop
-invariant-loop k rs total₀ i₀ total i = (i ≤ k) × (total ≡ wordsBelow rs i) × (total ≤ 4294967296 * i)
+invariant-loop k rs total₀ i₀ total i = (i ≤ k) × (total ≡ words_below rs i) × (total ≤ 4294967296 * i)
 
 abbrev decreases-loop : tie.decreases-loop
 decreases-loop k rs total₀ i₀ total i = k - i
 
 loop-holds : tie.Need-loop-init invariant-loop decreases-loop
-unfolding wordsBelow
+unfolding words_below
 loop-holds c = search rules
 
 mul-r : tie.Need-overflow-mul-r invariant-loop decreases-loop
@@ -47,8 +47,8 @@ returns c =
     let i : c.before.loop.i ≡ c.before.before.args.k = let h = c.before.loop.invariant.0 in let t = c.loop-test.false in omega arith in
     rw (← i) (c.before.loop.invariant.1, c.before.loop.invariant.2)
 
-pub words-below-spec : {M : Type 1} → statement M
-words-below-spec =
+pub words_below_spec : {M : Type 1} → statement M
+words_below_spec =
     tie.close
     (tie.spec
     invariant-loop

@@ -19,5 +19,5 @@ returns c = rw c.before.before.a.given.1 c.refusal-number.ensures
 returns-2 : tie.Need-returns-2
 returns-2 c = search rules
 
-pub packet-number-spec : {M : Type 1} → statement M
-packet-number-spec = tie.close (tie.spec enum-known-a refusal-number-requires enum_told returns returns-2)
+pub packet_number_spec : {M : Type 1} → statement M
+packet_number_spec = tie.close (tie.spec enum-known-a refusal-number-requires enum_told returns returns-2)

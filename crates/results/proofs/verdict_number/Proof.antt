@@ -19,5 +19,5 @@ returns c = search rules
 returns-2 : tie.Need-returns-2
 returns-2 c = rw c.before.before.v.given.1 c.refusal-number.ensures
 
-pub verdict-number-spec : {M : Type 1} → statement M
-verdict-number-spec = tie.close (tie.spec enum_told enum-known-v refusal-number-requires returns returns-2)
+pub verdict_number_spec : {M : Type 1} → statement M
+verdict_number_spec = tie.close (tie.spec enum_told enum-known-v refusal-number-requires returns returns-2)

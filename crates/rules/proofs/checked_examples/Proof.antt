@@ -7,5 +7,5 @@ use Rattle.rules.proofs.checked_examples.Tie as tie
 returns : tie.Need-returns
 returns c = examples
 
-pub checked-examples-spec : {M : Type 1} → statement M
-checked-examples-spec = tie.close (tie.spec returns)
+pub checked_examples_spec : {M : Type 1} → statement M
+checked_examples_spec = tie.close (tie.spec returns)

@@ -7,5 +7,5 @@ use Rattle.rules.proofs.packets_read_back.Tie as tie
 returns : tie.Need-returns
 returns c = read_back
 
-pub packets-read-back-spec : {M : Type 1} → statement M
-packets-read-back-spec = tie.close (tie.spec returns)
+pub packets_read_back_spec : {M : Type 1} → statement M
+packets_read_back_spec = tie.close (tie.spec returns)

@@ -7,5 +7,5 @@ use Rattle.rules.proofs.pools_apart.Tie as tie
 returns : tie.Need-returns
 returns c = apart
 
-pub pools-apart-spec : {M : Type 1} → statement M
-pools-apart-spec = tie.close (tie.spec returns)
+pub pools_apart_spec : {M : Type 1} → statement M
+pools_apart_spec = tie.close (tie.spec returns)

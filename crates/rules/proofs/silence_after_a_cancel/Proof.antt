@@ -7,5 +7,5 @@ use Rattle.rules.proofs.silence_after_a_cancel.Tie as tie
 returns : tie.Need-returns
 returns c = silence
 
-pub silence-after-a-cancel-spec : {M : Type 1} → statement M
-silence-after-a-cancel-spec = tie.close (tie.spec returns)
+pub silence_after_a_cancel_spec : {M : Type 1} → statement M
+silence_after_a_cancel_spec = tie.close (tie.spec returns)

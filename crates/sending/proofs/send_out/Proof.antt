@@ -1,8 +1,8 @@
 -- `sending::send_out` meets its contract.
 -- Assumes nothing.
 use mathlib.Core.Path.{refl}
-use Rattle.opening.proofs.Facts.{words-cut}
-use Rattle.sending.proofs.Facts.{packet-put}
+use Rattle.opening.proofs.Facts.{words_cut}
+use Rattle.sending.proofs.Facts.{packet_put}
 use borrow.Author.Rules.{rules}
 use Rattle.sending.proofs.send_out.Statement.{statement}
 use Rattle.sending.proofs.send_out.Tie as tie
@@ -38,10 +38,10 @@ same_length : tie.Need-same-length
 same_length c = search rules
 
 returns-2 : tie.Need-returns-2
-returns-2 c = rw (c.before.before.before.before.before.before.before.before.before.before.d2.given.1, ← words-cut _ _ _ c.before.before.before.before.words-at.ensures) (refl, packet-put _ _ _ c.before.before.before.put-packet.ensures)
+returns-2 c = rw (c.before.before.before.before.before.before.before.before.before.before.d2.given.1, ← words_cut _ _ _ c.before.before.before.before.words_at_lem.ensures) (refl, packet_put _ _ _ c.before.before.before.put-packet.ensures)
 
-pub send-out-spec : {M : Type 1} → statement M
-send-out-spec =
+pub send_out_spec : {M : Type 1} → statement M
+send_out_spec =
     tie.close
     (tie.spec
     enum-known-d

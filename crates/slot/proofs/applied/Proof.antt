@@ -39,8 +39,8 @@ returns-2 c = λ fits.
     let same : place % 256 ≡ place = omega arith in
     rw (at-d.d.given.1, same, c.before.before.set-context.ensures)
 
-pub applied-spec : {M : Type 1} → statement M
-applied-spec =
+pub applied_spec : {M : Type 1} → statement M
+applied_spec =
     tie.close
     (tie.spec
     enum_told

@@ -34,8 +34,8 @@ returns-2 c = λ good.
     let turn = at-found.before.before.before in
     rw (← turn.before.before.next-turn.ensures, turn.turn.given.1, ← at-found.find.ensures good, ← c.before.index.ensures) c.send.ensures
 
-pub by-turn-spec : {M : Type 1} → statement M
-by-turn-spec =
+pub by_turn_spec : {M : Type 1} → statement M
+by_turn_spec =
     tie.close
     (tie.spec
     next-turn-requires

@@ -1,6 +1,6 @@
 -- `slot::decide` meets its contract.
 -- Assumes nothing.
-use Rattle.sending.proofs.Slots.{step-refused, step-turn}
+use Rattle.sending.proofs.Slots.{step_refused, step_turn}
 use borrow.Author.Rules.{rules}
 use Rattle.slot.proofs.decide.Statement.{statement}
 use Rattle.slot.proofs.decide.Tie as tie
@@ -18,13 +18,13 @@ by-turn-requires : tie.Need-by-turn-requires
 by-turn-requires c κs = search rules
 
 returns : tie.Need-returns
-returns c = λ words bytes eg ei eb. step-refused _ _ eg ei eb c.before.before.before.lent-verdict.ensures c.before.lent.given.1
+returns c = λ words bytes eg ei eb. step_refused _ _ eg ei eb c.before.before.before.lent-verdict.ensures c.before.lent.given.1
 
 returns-2 : tie.Need-returns-2
-returns-2 c = λ words bytes eg ei eb. step-turn _ _ eg ei eb c.before.before.before.lent-verdict.ensures c.before.enum_told.given.1 c.by_turn.ensures
+returns-2 c = λ words bytes eg ei eb. step_turn _ _ eg ei eb c.before.before.before.lent-verdict.ensures c.before.enum_told.given.1 c.by_turn.ensures
 
-pub decide-spec : {M : Type 1} → statement M
-decide-spec =
+pub decide_spec : {M : Type 1} → statement M
+decide_spec =
     tie.close
     (tie.spec
     lent-verdict-requires

@@ -1,7 +1,7 @@
 -- `state::find` meets its contract.
 -- Assumes nothing.
-use Rattle.rules.proofs.Located.{good-table}
-use Rattle.regions.proofs.Answers.{found-in-order}
+use Rattle.rules.proofs.Located.{good_table_lem}
+use Rattle.regions.proofs.Answers.{found_in_order}
 use borrow.Author.Rules.{rules}
 use Rattle.state.proofs.find.Statement.{statement}
 use Rattle.state.proofs.find.Tie as tie
@@ -10,7 +10,7 @@ find-region-requires : tie.Need-find-region-requires
 find-region-requires c κs = search rules
 
 returns : tie.Need-returns
-returns c = λ good. let s = c.before.before.args.s in found-in-order s.regions s.count _ c.find-region.ensures.0 (good-table s good)
+returns c = λ good. let s = c.before.before.args.s in found_in_order s.regions s.count _ c.find-region.ensures.0 (good_table_lem s good)
 
 pub find_spec : {M : Type 1} → statement M
 find_spec = tie.close (tie.spec find-region-requires returns)

@@ -3,7 +3,7 @@
 use mathlib.Core.Path.{◌≡◌}
 use lib.ListN.{length}
 use borrow.Author.Tests.{eq-eqb}
-use Rattle.rules.specs.States.{placesRules}
+use Rattle.rules.specs.States.{places_rules}
 use borrow.Author.Rules.{rules}
 use Rattle.state.proofs.places_rules.Statement.{statement}
 use Rattle.state.proofs.places_rules.Tie as tie
@@ -21,7 +21,7 @@ place-rules-requires-4 : tie.Need-place-rules-requires-4
 place-rules-requires-4 c κs = search rules
 
 returns : tie.Need-returns
-unfolding placesRules
+unfolding places_rules
 returns c =
     let four : length c.before.before.before.before.args.ps ≡ 4 = search rules in
     λ h. rw (
@@ -32,8 +32,8 @@ returns c =
       eq-eqb _ _ four,
     )
 
-pub places-rules-spec : {M : Type 1} → statement M
-places-rules-spec =
+pub places_rules_spec : {M : Type 1} → statement M
+places_rules_spec =
     tie.close
     (tie.spec
     place-rules-requires

@@ -1,7 +1,7 @@
 -- `state::start_up` meets its contract.
 -- Assumes nothing.
-use Rattle.state.proofs.Steps.{start-refused, start-accepted}
-use Rattle.state.proofs.Answers.{start-words-none, start-words-some, start-words-count}
+use Rattle.state.proofs.Steps.{start_refused, start_accepted}
+use Rattle.state.proofs.Answers.{start_words_none, start_words_some, start_words_count}
 use borrow.Author.Rules.{rules}
 use Rattle.state.proofs.start_up.Statement.{statement}
 use Rattle.state.proofs.start_up.Tie as tie
@@ -16,14 +16,14 @@ returns : tie.Need-returns
 returns c =
     let t = c.before.before in
     let a = t.before.args in
-    start-refused a.rs a.n a.ps a.unit
-    (start-words-none a.rs a.n a.ps a.unit _ t.start-words.ensures c.before.if1.true) _ c.no-state.ensures
+    start_refused a.rs a.n a.ps a.unit
+    (start_words_none a.rs a.n a.ps a.unit _ t.start_words.ensures c.before.if1.true) _ c.no_state_lem.ensures
 
 entries-used-requires : tie.Need-entries-used-requires
 entries-used-requires c κs =
     let t = c.before in
     let a = t.before.args in
-    start-words-count a.rs a.n a.ps a.unit _ t.start-words.ensures c.if1.false
+    start_words_count a.rs a.n a.ps a.unit _ t.start_words.ensures c.if1.false
 
 fresh-state-requires : tie.Need-fresh-state-requires
 fresh-state-requires c κs = search rules
@@ -33,11 +33,11 @@ returns-2 c =
     let l = c.before.before in
     let t = l.before in
     let a = t.before.args in
-    start-accepted a.rs a.n a.ps a.unit
-    (start-words-some a.rs a.n a.ps a.unit _ t.start-words.ensures l.if1.false).0 _ c.before.entries-used.ensures _ c.fresh-state.ensures
+    start_accepted a.rs a.n a.ps a.unit
+    (start_words_some a.rs a.n a.ps a.unit _ t.start_words.ensures l.if1.false).0 _ c.before.entries-used.ensures _ c.fresh-state.ensures
 
-pub start-up-spec : {M : Type 1} → statement M
-start-up-spec =
+pub start_up_spec : {M : Type 1} → statement M
+start_up_spec =
     tie.close
     (tie.spec
     start-words-requires

@@ -1,6 +1,6 @@
 -- `symbols::get64` meets its contract.
 -- Assumes nothing.
-use Rattle.symbols.proofs.Numbers.{number-eight}
+use Rattle.symbols.proofs.Numbers.{number_eight}
 use borrow.Author.Rules.{rules}
 use Rattle.symbols.proofs.get64.Statement.{statement}
 use Rattle.symbols.proofs.get64.Tie as tie
@@ -27,10 +27,10 @@ add-result : tie.Need-overflow-add-result
 add-result c = search rules
 
 returns : tie.Need-returns
-returns c = rw (c.before.get32.ensures, c.get322.ensures) (number-eight c.before.before.before.args.p.now c.before.before.before.args.at)
+returns c = rw (c.before.get32.ensures, c.get322.ensures) (number_eight c.before.before.before.args.p.now c.before.before.before.args.at)
 
-pub get64-spec : {M : Type 1} → statement M
-get64-spec =
+pub get64_spec : {M : Type 1} → statement M
+get64_spec =
     tie.close
     (tie.spec
     get32-requires

@@ -4,8 +4,8 @@ use mathlib.Core.Path.{sym, ◌∙◌}
 use native.Mathlib.Omega.{arith}
 use borrow.Author.Tests.{eq-eqb, ne_eqb}
 use Rattle.symbols.specs.Words.{word_at}
-use Rattle.symbols.proofs.Steps.{record-byte}
-use Rattle.symbols.proofs.Words.{record-word}
+use Rattle.symbols.proofs.Steps.{record_byte}
+use Rattle.symbols.proofs.Words.{record_word}
 use borrow.Author.Rules.{rules}
 use Rattle.symbols.proofs.has_words.Statement.{statement}
 use Rattle.symbols.proofs.has_words.Tie as tie
@@ -20,7 +20,7 @@ returns : tie.Need-returns
 returns c =
     let g = c.before.before in
     let a = g.before.before.before.args in
-    let first = record-word a.t.now a.j _ g.before.record-at.ensures.0 4 (omega arith) _ g.get64.ensures in
+    let first = record_word a.t.now a.j _ g.before.record-at.ensures.0 4 (omega arith) _ g.get64.ensures in
     rw (ne_eqb (word_at a.t.now a.j 4) a.w.a (λ e. c.if1.true (first ∙ e)))
 
 shared-slice-read-result : tie.Need-shared-slice-read-result
@@ -53,11 +53,11 @@ returns-2 c =
     let r = one.before in
     let a = r.before.before.args in
     let bytes = r.record-at.ensures.0 in
-    let word = record-word a.t.now a.j r.record-at.result.now bytes in
+    let word = record_word a.t.now a.j r.record-at.result.now bytes in
     let first = sym (word 4 (omega arith) _ one.get64.ensures) ∙ other.if1.false in
     rw (
       eq-eqb (word_at a.t.now a.j 4) a.w.a first,
-      record-byte a.t.now a.j _ bytes 1 (omega arith),
+      record_byte a.t.now a.j _ bytes 1 (omega arith),
       word 12 (omega arith) _ two.get642.ensures,
       word 20 (omega arith) _ three.get643.ensures,
       word 28 (omega arith) _ four.get644.ensures,
@@ -65,8 +65,8 @@ returns-2 c =
       word 44 (omega arith) _ six.get646.ensures,
     )
 
-pub has-words-spec : {M : Type 1} → statement M
-has-words-spec =
+pub has_words_spec : {M : Type 1} → statement M
+has_words_spec =
     tie.close
     (tie.spec
     record-at-requires

@@ -7,15 +7,15 @@ use native.Mathlib.Omega.{arith}
 use borrow.Author.Tests.{not-true}
 use Rattle.lists.specs.Below.{all_below}
 use Rattle.lists.proofs.Below.{all_more}
-use Rattle.symbols.proofs.Logic.{isNew}
-use Rattle.symbols.proofs.Steps.{all-not}
-use Rattle.symbols.proofs.Words.{words-named, first-new}
+use Rattle.symbols.proofs.Logic.{is_new}
+use Rattle.symbols.proofs.Steps.{all_not}
+use Rattle.symbols.proofs.Words.{words_named, first_new}
 use borrow.Author.Rules.{rules}
 use Rattle.symbols.proofs.is_new.Statement.{statement}
 use Rattle.symbols.proofs.is_new.Tie as tie
 
 abbrev invariant-loop : tie.invariant-loop
-invariant-loop t i w a j₀ j = (j ≤ i) × (all_below (isNew t i) j ≡ true)
+invariant-loop t i w a j₀ j = (j ≤ i) × (all_below (is_new t i) j ≡ true)
 
 abbrev decreases-loop : tie.decreases-loop
 decreases-loop t i w a j₀ j = i - j
@@ -30,7 +30,7 @@ returns : tie.Need-returns invariant-loop decreases-loop
 returns c =
     let w = c.before.before in
     let s = w.before.before in
-    first-new s.args.t.now s.args.i s.requires _ w.words_of.ensures (sym c.before.any-first.ensures ∙ not-true _ c.if1.true)
+    first_new s.args.t.now s.args.i s.requires _ w.words_of.ensures (sym c.before.any_first.ensures ∙ not-true _ c.if1.true)
 
 loop-holds : tie.Need-loop-init invariant-loop decreases-loop
 loop-holds c = search rules
@@ -43,9 +43,9 @@ returns-2 c =
     let l = c.before.before.before in
     let w = l.before.before.before in
     let s = w.before.before in
-    let named = words-named s.args.t.now s.args.i s.requires _ w.words_of.ensures (λ x. (w.before.shared-slice-known.given x).fits) {j = l.loop.j} (omega arith) in
+    let named = words_named s.args.t.now s.args.i s.requires _ w.words_of.ensures (λ x. (w.before.shared-slice-known.given x).fits) {j = l.loop.j} (omega arith) in
     let one = sym named ∙ sym c.before.has_words.ensures ∙ c.if2.true in
-    all-not (isNew s.args.t.now s.args.i) s.args.i {i = l.loop.j} (omega arith) (rw one)
+    all_not (is_new s.args.t.now s.args.i) s.args.i {i = l.loop.j} (omega arith) (rw one)
 
 add-j : tie.Need-overflow-add-j invariant-loop decreases-loop
 add-j c = search rules
@@ -58,9 +58,9 @@ loop-again c =
     let l = c.before.before.before in
     let w = l.before.before.before in
     let s = w.before.before in
-    let named = words-named s.args.t.now s.args.i s.requires _ w.words_of.ensures (λ x. (w.before.shared-slice-known.given x).fits) {j = l.loop.j} (omega arith) in
+    let named = words_named s.args.t.now s.args.i s.requires _ w.words_of.ensures (λ x. (w.before.shared-slice-known.given x).fits) {j = l.loop.j} (omega arith) in
     let none = sym named ∙ sym c.before.has_words.ensures ∙ c.if2.false in
-    (search rules, rw (all_more (isNew s.args.t.now s.args.i) l.loop.j, l.loop.invariant.1, none))
+    (search rules, rw (all_more (is_new s.args.t.now s.args.i) l.loop.j, l.loop.invariant.1, none))
 
 returns-3 : tie.Need-returns-3 invariant-loop decreases-loop
 returns-3 c =
@@ -68,8 +68,8 @@ returns-3 c =
     let e : l.loop.j ≡ l.before.before.before.before.before.args.i = omega arith in
     sym (rw e at l.loop.invariant.1)
 
-pub is-new-spec : {M : Type 1} → statement M
-is-new-spec =
+pub is_new_spec : {M : Type 1} → statement M
+is_new_spec =
     tie.close
     (tie.spec
     invariant-loop

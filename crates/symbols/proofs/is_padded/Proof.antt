@@ -5,13 +5,13 @@ use Prim.Native.Nat.{◌+◌, ◌*◌, ◌-◌, ◌≤◌}
 use native.Mathlib.Omega.{arith}
 use Rattle.lists.specs.Below.{all_below}
 use Rattle.lists.proofs.Below.{all_more}
-use Rattle.symbols.proofs.Records.{isPad}
+use Rattle.symbols.proofs.Records.{is_pad}
 use borrow.Author.Rules.{rules}
 use Rattle.symbols.proofs.is_padded.Statement.{statement}
 use Rattle.symbols.proofs.is_padded.Tie as tie
 
 abbrev invariant-loop : tie.invariant-loop
-invariant-loop t i n at padded₀ j₀ padded j = (j ≤ 48) × (padded ≡ all_below (isPad t i) j)
+invariant-loop t i n at padded₀ j₀ padded j = (j ≤ 48) × (padded ≡ all_below (is_pad t i) j)
 
 abbrev decreases-loop : tie.decreases-loop
 decreases-loop t i n at padded₀ j₀ padded j = 48 - j
@@ -53,7 +53,7 @@ loop-again : tie.Need-loop-preserved invariant-loop decreases-loop
 loop-again c =
     let l = c.before.before in
     let a = l.before.before.args in
-    (search rules, rw (all_more (isPad a.t.now a.i) l.loop.j, ← l.loop.invariant.1))
+    (search rules, rw (all_more (is_pad a.t.now a.i) l.loop.j, ← l.loop.invariant.1))
 
 returns : tie.Need-returns invariant-loop decreases-loop
 returns c =
@@ -61,8 +61,8 @@ returns c =
     let e : l.loop.j ≡ 48 = omega arith in
     rw e at l.loop.invariant.1
 
-pub is-padded-spec : {M : Type 1} → statement M
-is-padded-spec =
+pub is_padded_spec : {M : Type 1} → statement M
+is_padded_spec =
     tie.close
     (tie.spec
     invariant-loop

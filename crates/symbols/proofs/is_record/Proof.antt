@@ -2,7 +2,7 @@
 -- Assumes nothing.
 use mathlib.Core.Path.{◌∙◌}
 use native.Mathlib.Omega.{arith}
-use Rattle.symbols.proofs.Steps.{record-byte, record-kind, record-number}
+use Rattle.symbols.proofs.Steps.{record_byte, record_kind, record_number}
 use borrow.Author.Rules.{rules}
 use Rattle.symbols.proofs.is_record.Statement.{statement}
 use Rattle.symbols.proofs.is_record.Tie as tie
@@ -33,12 +33,12 @@ returns c =
     let r = c.before.before.before.before.before in
     let a = r.before.before.args in
     let bytes = r.record-at.ensures.0 in
-    let zeros = c.before.before.get16.ensures ∙ record-number a.t.now a.i _ bytes 2 2 (omega arith) in
-    let number = c.get32.ensures ∙ record-number a.t.now a.i _ bytes 4 52 (omega arith) in
-    rw (record-kind a.t.now a.i _ bytes, record-byte a.t.now a.i _ bytes 1 (omega arith), zeros, c.before.is-padded.ensures, number)
+    let zeros = c.before.before.get16.ensures ∙ record_number a.t.now a.i _ bytes 2 2 (omega arith) in
+    let number = c.get32.ensures ∙ record_number a.t.now a.i _ bytes 4 52 (omega arith) in
+    rw (record_kind a.t.now a.i _ bytes, record_byte a.t.now a.i _ bytes 1 (omega arith), zeros, c.before.is-padded.ensures, number)
 
-pub is-record-spec : {M : Type 1} → statement M
-is-record-spec =
+pub is_record_spec : {M : Type 1} → statement M
+is_record_spec =
     tie.close
     (tie.spec
     record-at-requires

@@ -7,23 +7,23 @@ use native.Mathlib.Omega.{arith}
 use borrow.Author.Tests.{not-true, not-false}
 use Rattle.lists.specs.Below.{all_below}
 use Rattle.lists.proofs.Below.{all_more}
-use Rattle.symbols.specs.Table.{symbolsIn, symbolRules}
-use Rattle.symbols.proofs.Steps.{table-not, table-broken, table_kept}
+use Rattle.symbols.specs.Table.{symbols_in, symbol_rules}
+use Rattle.symbols.proofs.Steps.{table_not, table_broken, table_kept}
 use borrow.Author.Rules.{rules}
 use Rattle.symbols.proofs.is_table.Statement.{statement}
 use Rattle.symbols.proofs.is_table.Tie as tie
 
 abbrev invariant-loop : tie.invariant-loop
-invariant-loop t n i₀ i = (i ≤ n) × (all_below (symbolRules t) i ≡ true)
+invariant-loop t n i₀ i = (i ≤ n) × (all_below (symbol_rules t) i ≡ true)
 
 abbrev decreases-loop : tie.decreases-loop
 decreases-loop t n i₀ i = n - i
 
 returns : tie.Need-returns invariant-loop decreases-loop
-returns c = table-not c.before.before.args.t.now (λ s. c.if1.true (let b = s.bytes in omega arith))
+returns c = table_not c.before.before.args.t.now (λ s. c.if1.true (let b = s.bytes in omega arith))
 
 returns-2 : tie.Need-returns-2 invariant-loop decreases-loop
-returns-2 c = table-not c.before.before.before.args.t.now (λ s. let b = s.bytes in let m = s.most in omega (arith, c.if2.true))
+returns-2 c = table_not c.before.before.before.args.t.now (λ s. let b = s.bytes in let m = s.most in omega (arith, c.if2.true))
 
 loop-holds : tie.Need-loop-init invariant-loop decreases-loop
 loop-holds c = search rules
@@ -36,7 +36,7 @@ returns-3 c =
     let l = c.before.before.before in
     let s = l.before.before.before.before in
     let no = sym c.before.is-record.ensures ∙ not-true _ c.if3.true in
-    table-broken s.args.t.now c.before.before.loop-test.true (rw no)
+    table_broken s.args.t.now c.before.before.loop-test.true (rw no)
 
 is-new-requires : tie.Need-is-new-requires invariant-loop decreases-loop
 is-new-requires c κs =
@@ -50,7 +50,7 @@ returns-4 c =
     let s = l.before.before.before.before in
     let yes = sym r.before.is-record.ensures ∙ not-false _ r.if3.false in
     let no = sym c.before.is-new.ensures ∙ not-true _ c.if4.true in
-    table-broken s.args.t.now r.before.before.loop-test.true (rw (yes, no))
+    table_broken s.args.t.now r.before.before.loop-test.true (rw (yes, no))
 
 add-i : tie.Need-overflow-add-i invariant-loop decreases-loop
 add-i c = search rules
@@ -65,17 +65,17 @@ loop-again c =
     let s = l.before.before.before.before in
     let yes = sym r.before.is-record.ensures ∙ not-false _ r.if3.false in
     let new = sym c.before.is-new.ensures ∙ not-false _ c.if4.false in
-    (search rules, rw (all_more (symbolRules s.args.t.now) l.loop.i, l.loop.invariant.1, yes, new))
+    (search rules, rw (all_more (symbol_rules s.args.t.now) l.loop.i, l.loop.invariant.1, yes, new))
 
 returns-5 : tie.Need-returns-5 invariant-loop decreases-loop
 returns-5 c =
     let l = c.before in
     let s = l.before.before.before.before in
-    let e : l.loop.i ≡ symbolsIn s.args.t.now = omega arith in
+    let e : l.loop.i ≡ symbols_in s.args.t.now = omega arith in
     table_kept s.args.t.now l.before.before.if1.false (omega arith) (rw e at l.loop.invariant.1)
 
-pub is-table-spec : {M : Type 1} → statement M
-is-table-spec =
+pub is_table_spec : {M : Type 1} → statement M
+is_table_spec =
     tie.close
     (tie.spec
     invariant-loop

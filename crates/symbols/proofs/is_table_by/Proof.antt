@@ -34,7 +34,7 @@ returns-2 c = let s = c.before.before.before in sym (known_as s.args.t.now c.enu
 returns-3 : tie.Need-returns-3
 returns-3 c = let s = c.before.before.before in sym (known_as s.args.t.now c.enum-told3.given.1 s.requires)
 
-pub is-table-by-spec : {M : Type 1} → statement M
-is-table-by-spec =
+pub is_table_by_spec : {M : Type 1} → statement M
+is_table_by_spec =
     tie.close
     (tie.spec enum_told is-table-requires enum-told-2 enum-told-3 returns returns-2 returns-3)

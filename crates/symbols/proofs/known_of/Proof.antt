@@ -11,11 +11,11 @@ is-table-requires c κs = search rules
 
 returns : tie.Need-returns
 unfolding known_of
-returns c = rw (sym c.before.is-table.ensures ∙ c.if1.true)
+returns c = rw (sym c.before.is_table_lem.ensures ∙ c.if1.true)
 
 returns-2 : tie.Need-returns-2
 unfolding known_of
-returns-2 c = rw (sym c.before.is-table.ensures ∙ c.if1.false)
+returns-2 c = rw (sym c.before.is_table_lem.ensures ∙ c.if1.false)
 
-pub known-of-spec : {M : Type 1} → statement M
-known-of-spec = tie.close (tie.spec is-table-requires returns returns-2)
+pub known_of_spec : {M : Type 1} → statement M
+known_of_spec = tie.close (tie.spec is-table-requires returns returns-2)

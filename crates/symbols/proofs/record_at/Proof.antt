@@ -31,6 +31,6 @@ returns c =
     let n : 56 * i + 56 - 56 * i ≡ 56 = omega arith in
     rw n (refl, length-take-le 56 (drop (56 * i) t) (simp length-drop (omega arith)))
 
-pub record-at-spec : {M : Type 1} → statement M
-record-at-spec =
+pub record_at_spec : {M : Type 1} → statement M
+record_at_spec =
     tie.close (tie.spec mul-from add-end sub-result part-result-start part-result-end returns)

@@ -4,17 +4,17 @@ use mathlib.Core.Path.{◌≡◌, sym, ◌∙◌}
 use mathlib.Core.Bool.{false}
 use Prim.Native.Nat.{◌-◌, ◌≤◌}
 use native.Mathlib.Omega.{arith}
-use Rattle.lists.specs.Below.{anyBelow}
+use Rattle.lists.specs.Below.{any_below}
 use Rattle.lists.proofs.Below.{none_more}
-use Rattle.symbols.specs.Table.{symbolsIn}
-use Rattle.symbols.proofs.Logic.{isNamed}
-use Rattle.symbols.proofs.Steps.{table-record, found_at, found_none}
+use Rattle.symbols.specs.Table.{symbols_in}
+use Rattle.symbols.proofs.Logic.{is_named}
+use Rattle.symbols.proofs.Steps.{table_record, found_at, found_none}
 use borrow.Author.Rules.{rules}
 use Rattle.symbols.proofs.resolve.Statement.{statement}
 use Rattle.symbols.proofs.resolve.Tie as tie
 
 abbrev invariant-loop : tie.invariant-loop
-invariant-loop t name n i₀ i = (i ≤ n) × (anyBelow (isNamed t name) i ≡ false)
+invariant-loop t name n i₀ i = (i ≤ n) × (any_below (is_named t name) i ≡ false)
 
 abbrev decreases-loop : tie.decreases-loop
 decreases-loop t name n i₀ i = n - i
@@ -25,7 +25,7 @@ loop-holds c = search rules
 is-named-requires : tie.Need-is-named-requires invariant-loop decreases-loop
 is-named-requires c κs =
     let s = c.before.before.before.before in
-    table-record s.args.t.now s.requires c.before.loop.i c.loop-test.true
+    table_record s.args.t.now s.requires c.before.loop.i c.loop-test.true
 
 value-at-requires : tie.Need-value-at-requires invariant-loop decreases-loop
 value-at-requires c κs =
@@ -55,11 +55,11 @@ returns-2 : tie.Need-returns-2 invariant-loop decreases-loop
 returns-2 c =
     let l = c.before in
     let s = l.before.before.before in
-    let e : l.loop.i ≡ symbolsIn s.args.t.now = omega arith in
+    let e : l.loop.i ≡ symbols_in s.args.t.now = omega arith in
     found_none s.args.t.now s.args.name.now (rw e at l.loop.invariant.1)
 
-pub resolve-spec : {M : Type 1} → statement M
-resolve-spec =
+pub resolve_spec : {M : Type 1} → statement M
+resolve_spec =
     tie.close
     (tie.spec
     invariant-loop

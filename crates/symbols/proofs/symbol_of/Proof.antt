@@ -21,5 +21,5 @@ returns-2 : tie.Need-returns-2
 unfolding symbol_of
 returns-2 c = rw (sym c.before.before.is-table-by.ensures ∙ not-false _ c.before.if1.false) c.resolve.ensures
 
-pub symbol-of-spec : {M : Type 1} → statement M
-symbol-of-spec = tie.close (tie.spec is-table-by-requires returns resolve-requires returns-2)
+pub symbol_of_spec : {M : Type 1} → statement M
+symbol_of_spec = tie.close (tie.spec is-table-by-requires returns resolve-requires returns-2)

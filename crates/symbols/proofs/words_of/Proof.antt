@@ -1,8 +1,8 @@
 -- `symbols::words_of` meets its contract.
 -- Assumes nothing.
 use native.Mathlib.Omega.{arith}
-use Rattle.symbols.proofs.Steps.{record-byte}
-use Rattle.symbols.proofs.Words.{record-word}
+use Rattle.symbols.proofs.Steps.{record_byte}
+use Rattle.symbols.proofs.Words.{record_word}
 use borrow.Author.Rules.{rules}
 use Rattle.symbols.proofs.words_of.Statement.{statement}
 use Rattle.symbols.proofs.words_of.Tie as tie
@@ -36,9 +36,9 @@ returns c =
     let r = c.before.before.before.before.before.before.before in
     let a = r.before.before.args in
     let bytes = r.record-at.ensures.0 in
-    let word = record-word a.t.now a.i r.record-at.result.now bytes in
+    let word = record_word a.t.now a.i r.record-at.result.now bytes in
     rw (
-      record-byte a.t.now a.i _ bytes 1 (omega arith),
+      record_byte a.t.now a.i _ bytes 1 (omega arith),
       word 4 (omega arith) _ c.before.before.before.before.before.get64.ensures,
       word 12 (omega arith) _ c.before.before.before.before.get642.ensures,
       word 20 (omega arith) _ c.before.before.before.get643.ensures,
@@ -47,8 +47,8 @@ returns c =
       word 44 (omega arith) _ c.get646.ensures,
     )
 
-pub words-of-spec : {M : Type 1} → statement M
-words-of-spec =
+pub words_of_spec : {M : Type 1} → statement M
+words_of_spec =
     tie.close
     (tie.spec
     record-at-requires

@@ -1,7 +1,7 @@
 -- `tasks::by_code` meets its contract.
 -- Assumes nothing.
 use mathlib.Core.Path.{sym, ◌∙◌}
-use Rattle.rules.proofs.Allowed.{decode-dump, decode-cancel, decode-load, decode-pool, decode-value, decode-by-name, decode-other}
+use Rattle.rules.proofs.Allowed.{decode_dump, decode_cancel, decode_load, decode_pool, decode_value, decode_by_name, decode_other}
 use borrow.Author.Rules.{rules}
 use Rattle.tasks.proofs.by_code.Statement.{statement}
 use Rattle.tasks.proofs.by_code.Tie as tie
@@ -48,41 +48,41 @@ named-dump-requires c κs = search rules
 returns : tie.Need-returns
 returns c =
     let picked = c.before.before in
-    rw (decode-dump _ (sym picked.before.function-code.ensures ∙ picked.match.keys1), ← c.before.checked.ensures) (c.dump.ensures _)
+    rw (decode_dump _ (sym picked.before.function-code.ensures ∙ picked.match.keys1), ← c.before.checked.ensures) (c.dump.ensures _)
 
 returns-2 : tie.Need-returns-2
 returns-2 c =
     let picked = c.before.before in
-    rw (decode-cancel _ (sym picked.before.function-code.ensures ∙ picked.match.keys2), ← c.before.checked2.ensures) (c.cancel.ensures _ _)
+    rw (decode_cancel _ (sym picked.before.function-code.ensures ∙ picked.match.keys2), ← c.before.checked2.ensures) (c.cancel.ensures _ _)
 
 returns-3 : tie.Need-returns-3
 returns-3 c =
     let picked = c.before.before in
-    rw (decode-load _ (sym picked.before.function-code.ensures ∙ picked.match.keys3), ← c.before.checked3.ensures) (c.load.ensures _)
+    rw (decode_load _ (sym picked.before.function-code.ensures ∙ picked.match.keys3), ← c.before.checked3.ensures) (c.load.ensures _)
 
 returns-4 : tie.Need-returns-4
 returns-4 c =
     let picked = c.before.before in
-    rw (decode-pool _ (sym picked.before.function-code.ensures ∙ picked.match.keys4), ← c.before.checked4.ensures) (c.pool-statistics.ensures _)
+    rw (decode_pool _ (sym picked.before.function-code.ensures ∙ picked.match.keys4), ← c.before.checked4.ensures) (c.pool-statistics.ensures _)
 
 returns-5 : tie.Need-returns-5
 returns-5 c =
     let picked = c.before.before in
-    rw (decode-value _ (sym picked.before.function-code.ensures ∙ picked.match.keys5), ← c.before.checked5.ensures) c.symbol-value.ensures
+    rw (decode_value _ (sym picked.before.function-code.ensures ∙ picked.match.keys5), ← c.before.checked5.ensures) c.symbol-value.ensures
 
 returns-6 : tie.Need-returns-6
 returns-6 c =
     let picked = c.before.before in
-    rw (decode-by-name _ (sym picked.before.function-code.ensures ∙ picked.match.keys6), ← c.before.checked6.ensures) c.named-dump.ensures
+    rw (decode_by_name _ (sym picked.before.function-code.ensures ∙ picked.match.keys6), ← c.before.checked6.ensures) c.named-dump.ensures
 
 returns-7 : tie.Need-returns-7
 returns-7 c =
     let code = c.before.function-code.ensures in
     let rest = c.match.rest in
-    rw (decode-other _ (λ e. rest.0.0.0.0.0.1 (code ∙ e)) (λ e. rest.0.0.0.0.1 (code ∙ e)) (λ e. rest.0.0.0.1 (code ∙ e)) (λ e. rest.0.0.1 (code ∙ e)) (λ e. rest.0.1 (code ∙ e)) (λ e. rest.1 (code ∙ e)))
+    rw (decode_other _ (λ e. rest.0.0.0.0.0.1 (code ∙ e)) (λ e. rest.0.0.0.0.1 (code ∙ e)) (λ e. rest.0.0.0.1 (code ∙ e)) (λ e. rest.0.0.1 (code ∙ e)) (λ e. rest.0.1 (code ∙ e)) (λ e. rest.1 (code ∙ e)))
 
-pub by-code-spec : {M : Type 1} → statement M
-by-code-spec =
+pub by_code_spec : {M : Type 1} → statement M
+by_code_spec =
     tie.close
     (tie.spec
     function-code-requires

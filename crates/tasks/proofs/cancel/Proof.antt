@@ -1,7 +1,7 @@
 -- `tasks::cancel` meets its contract.
 -- Assumes nothing.
 use Rattle.tasks.specs.Asked.{asked_of}
-use Rattle.rules.specs.Packets.{fieldRules}
+use Rattle.rules.specs.Packets.{field_rules}
 use borrow.Author.Rules.{rules}
 use Rattle.tasks.proofs.cancel.Statement.{statement}
 use Rattle.tasks.proofs.cancel.Tie as tie
@@ -16,8 +16,8 @@ enum_told : tie.Need-enum-told
 enum_told c = search rules
 
 returns-2 : tie.Need-returns-2
-unfolding asked_of fieldRules
+unfolding asked_of field_rules
 returns-2 c symbols p = rw c.enum_told.given.1
 
-pub cancel-spec : {M : Type 1} → statement M
-cancel-spec = tie.close (tie.spec enum-known-fit returns enum_told returns-2)
+pub cancel_spec : {M : Type 1} → statement M
+cancel_spec = tie.close (tie.spec enum-known-fit returns enum_told returns-2)

@@ -1,7 +1,7 @@
 -- `tasks::load` meets its contract.
 -- Assumes nothing.
 use Rattle.tasks.specs.Asked.{asked_of}
-use Rattle.rules.specs.Packets.{fieldRules}
+use Rattle.rules.specs.Packets.{field_rules}
 use borrow.Author.Rules.{rules}
 use Rattle.tasks.proofs.load.Statement.{statement}
 use Rattle.tasks.proofs.load.Tie as tie
@@ -28,7 +28,7 @@ if-right-requires : tie.Need-if-right-requires
 if-right-requires c κs = search rules
 
 returns-2 : tie.Need-returns-2
-unfolding asked_of fieldRules
+unfolding asked_of field_rules
 returns-2 c symbols =
     let told = c.before.before.before.before in
     rw (told.enum_told.given.1, c.if-right.ensures, c.before.range-of.ensures, c.before.before.load-rules.ensures, c.before.before.before.request-in.ensures)

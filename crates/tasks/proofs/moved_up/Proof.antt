@@ -18,5 +18,5 @@ returns c = rw (lt-ltb c.before.args.offset 2147483648 (omega arith)) (omega ari
 returns-2 : tie.Need-returns-2
 returns-2 c = rw (le-ltb c.before.args.offset 2147483648 (omega arith)) (omega arith)
 
-pub moved-up-spec : {M : Type 1} → statement M
-moved-up-spec = tie.close (tie.spec add-sum add-result returns returns-2)
+pub moved_up_spec : {M : Type 1} → statement M
+moved_up_spec = tie.close (tie.spec add-sum add-result returns returns-2)

@@ -1,7 +1,7 @@
 -- `tasks::name_in` meets its contract.
 -- Assumes nothing.
 use native.Mathlib.Omega.{arith}
-use Rattle.tasks.proofs.Steps.{name-none, name-cut, name-whole}
+use Rattle.tasks.proofs.Steps.{name_none, name_cut, name_whole}
 use borrow.Author.Rules.{rules}
 use Rattle.tasks.proofs.name_in.Statement.{statement}
 use Rattle.tasks.proofs.name_in.Tie as tie
@@ -16,7 +16,7 @@ part-result-end : tie.Need-slice-bounds-result-end
 part-result-end c = search rules
 
 returns : tie.Need-returns
-returns c = name-none c.before.before.args.p.now (omega arith)
+returns c = name_none c.before.before.args.p.now (omega arith)
 
 shared-slice-read-end : tie.Need-shared-slice-read-end
 shared-slice-read-end c = search rules
@@ -37,7 +37,7 @@ part-result-end-2 : tie.Need-slice-bounds-result-end-2
 part-result-end-2 c = search rules
 
 returns-2 : tie.Need-returns-2
-returns-2 c = name-cut c.before.before.before.before.args.p.now (omega arith)
+returns-2 c = name_cut c.before.before.before.before.args.p.now (omega arith)
 
 sub-result-3 : tie.Need-overflow-sub-result-3
 sub-result-3 c = search rules
@@ -49,10 +49,10 @@ part-result-end-3 : tie.Need-slice-bounds-result-end-3
 part-result-end-3 c = search rules
 
 returns-3 : tie.Need-returns-3
-returns-3 c = name-whole c.before.before.before.before.args.p.now
+returns-3 c = name_whole c.before.before.before.before.args.p.now
 
-pub name-in-spec : {M : Type 1} → statement M
-name-in-spec =
+pub name_in_spec : {M : Type 1} → statement M
+name_in_spec =
     tie.close
     (tie.spec
     sub-result

@@ -1,9 +1,9 @@
 -- `tasks::named_dump` meets its contract.
 -- Assumes nothing.
 use mathlib.Core.Path.{ap, ◌∙◌}
-use Rattle.rules.specs.Packets.{nameFits}
+use Rattle.rules.specs.Packets.{name_fits}
 use Rattle.rules.specs.declared.SymbolRequest.{SymbolRequest}
-use Rattle.tasks.proofs.Steps.{dump-as, zeros_of}
+use Rattle.tasks.proofs.Steps.{dump_as, zeros_of}
 use borrow.Author.Rules.{rules}
 use Rattle.tasks.proofs.named_dump.Statement.{statement}
 use Rattle.tasks.proofs.named_dump.Tie as tie
@@ -49,17 +49,17 @@ returns-2 c =
     let got = c.before.before.before in
     let read = got.before.before.before.before in
     rw read.before.enum_told.given.1
-    (dump-as _ _ got.resolved.ensures c.before.named.given.1 _ (got.before.before.before.name-fits.ensures ∙ ap (λ (q : SymbolRequest). nameFits q.name) read.symbol-request-in.ensures) (zeros_of _ _ got.before.before.pad-is-zero.ensures got.before.end-is-zero.ensures))
+    (dump_as _ _ got.resolved.ensures c.before.named.given.1 _ (got.before.before.before.name-fits.ensures ∙ ap (λ (q : SymbolRequest). name_fits q.name) read.symbol-request-in.ensures) (zeros_of _ _ got.before.before.pad-is-zero.ensures got.before.end-is-zero.ensures))
 
 returns-3 : tie.Need-returns-3
 returns-3 c =
     let got = c.before.before.before.before.before in
     let read = got.before.before.before.before in
     rw (read.before.enum_told.given.1, c.dump-from.ensures, c.before.moved_up.ensures, read.symbol-request-in.ensures)
-    (dump-as _ _ got.resolved.ensures c.before.before.before.named2.given.1 _ (got.before.before.before.name-fits.ensures ∙ ap (λ (q : SymbolRequest). nameFits q.name) read.symbol-request-in.ensures) (zeros_of _ _ got.before.before.pad-is-zero.ensures got.before.end-is-zero.ensures))
+    (dump_as _ _ got.resolved.ensures c.before.before.before.named2.given.1 _ (got.before.before.before.name-fits.ensures ∙ ap (λ (q : SymbolRequest). name_fits q.name) read.symbol-request-in.ensures) (zeros_of _ _ got.before.before.pad-is-zero.ensures got.before.end-is-zero.ensures))
 
-pub named-dump-spec : {M : Type 1} → statement M
-named-dump-spec =
+pub named_dump_spec : {M : Type 1} → statement M
+named_dump_spec =
     tie.close
     (tie.spec
     enum-known-fit

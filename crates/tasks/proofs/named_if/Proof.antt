@@ -10,5 +10,5 @@ returns c = search rules
 returns-2 : tie.Need-returns-2
 returns-2 c = rw c.if1.false
 
-pub named-if-spec : {M : Type 1} → statement M
-named-if-spec = tie.close (tie.spec returns returns-2)
+pub named_if_spec : {M : Type 1} → statement M
+named_if_spec = tie.close (tie.spec returns returns-2)

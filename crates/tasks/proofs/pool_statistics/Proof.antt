@@ -1,7 +1,7 @@
 -- `tasks::pool_statistics` meets its contract.
 -- Assumes nothing.
 use Rattle.tasks.specs.Asked.{asked_of}
-use Rattle.rules.specs.Packets.{fieldRules}
+use Rattle.rules.specs.Packets.{field_rules}
 use borrow.Author.Rules.{rules}
 use Rattle.tasks.proofs.pool_statistics.Statement.{statement}
 use Rattle.tasks.proofs.pool_statistics.Tie as tie
@@ -25,13 +25,13 @@ if-right-requires : tie.Need-if-right-requires
 if-right-requires c κs = search rules
 
 returns-2 : tie.Need-returns-2
-unfolding asked_of fieldRules
+unfolding asked_of field_rules
 returns-2 c symbols =
     let told = c.before.before.before in
     rw (told.enum_told.given.1, c.if-right.ensures, c.before.pool-rules.ensures, c.before.before.get16.ensures)
 
-pub pool-statistics-spec : {M : Type 1} → statement M
-pool-statistics-spec =
+pub pool_statistics_spec : {M : Type 1} → statement M
+pool_statistics_spec =
     tie.close
     (tie.spec
     enum-known-fit

@@ -24,10 +24,10 @@ returns c =
     let put = c.before.before in
     let words = put.before.before.before in
     let reply = words.before.before.args.reply.now in
-    (λ h. put.put-words.ensures.0 (omega arith) ∙ ap (splice reply 0) words.value-words.ensures, λ s. put.put-words.ensures.1 (omega arith))
+    (λ h. put.put-words.ensures.0 (omega arith) ∙ ap (splice reply 0) words.value_words.ensures, λ s. put.put-words.ensures.1 (omega arith))
 
-pub put-value-spec : {M : Type 1} → statement M
-put-value-spec =
+pub put_value_spec : {M : Type 1} → statement M
+put_value_spec =
     tie.close
     (tie.spec
     value-words-requires

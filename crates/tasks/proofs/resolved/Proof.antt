@@ -1,7 +1,7 @@
 -- `tasks::resolved` meets its contract.
 -- Assumes nothing.
-use Rattle.rules.specs.Packets.{nameIn}
-use Rattle.tasks.proofs.Steps.{answered-as}
+use Rattle.rules.specs.Packets.{name_in}
+use Rattle.tasks.proofs.Steps.{answered_as}
 use borrow.Author.Rules.{rules}
 use Rattle.tasks.proofs.resolved.Statement.{statement}
 use Rattle.tasks.proofs.resolved.Tie as tie
@@ -31,24 +31,24 @@ returns : tie.Need-returns
 returns c =
     let found = c.before.before in
     let a = found.before.before.before.before.args in
-    answered-as a.symbols.now (nameIn a.p.now) a.right found.before.name_in.ensures found.symbol-of.ensures c.enum_told.given.1
+    answered_as a.symbols.now (name_in a.p.now) a.right found.before.name_in.ensures found.symbol-of.ensures c.enum_told.given.1
 
 returns-2 : tie.Need-returns-2
 returns-2 c =
     let found = c.before.before.before in
     let a = found.before.before.before.before.args in
     rw c.named-if.ensures
-    (answered-as a.symbols.now (nameIn a.p.now) a.right found.before.name_in.ensures found.symbol-of.ensures c.before.enum-told2.given.1)
+    (answered_as a.symbols.now (name_in a.p.now) a.right found.before.name_in.ensures found.symbol-of.ensures c.before.enum-told2.given.1)
 
 returns-3 : tie.Need-returns-3
 returns-3 c =
     let found = c.before.before.before.before in
     let a = found.before.before.before.before.args in
     rw c.named-if2.ensures
-    (answered-as a.symbols.now (nameIn a.p.now) a.right found.before.name_in.ensures found.symbol-of.ensures c.before.before.symbol.given.1)
+    (answered_as a.symbols.now (name_in a.p.now) a.right found.before.name_in.ensures found.symbol-of.ensures c.before.before.symbol.given.1)
 
-pub resolved-spec : {M : Type 1} → statement M
-resolved-spec =
+pub resolved_spec : {M : Type 1} → statement M
+resolved_spec =
     tie.close
     (tie.spec
     name-in-requires

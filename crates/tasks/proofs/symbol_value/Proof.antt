@@ -1,7 +1,7 @@
 -- `tasks::symbol_value` meets its contract.
 -- Assumes nothing.
 use mathlib.Core.Path.{ap, ◌∙◌}
-use Rattle.rules.specs.Packets.{nameFits, zeroRules}
+use Rattle.rules.specs.Packets.{name_fits, zero_rules}
 use Rattle.tasks.proofs.Steps.{value_as}
 use borrow.Author.Rules.{rules}
 use Rattle.tasks.proofs.symbol_value.Statement.{statement}
@@ -35,23 +35,23 @@ enum-known-named-2 : tie.Need-enum-known-named-2
 enum-known-named-2 c = search rules
 
 returns-2 : tie.Need-returns-2
-unfolding zeroRules
+unfolding zero_rules
 returns-2 c =
     let got = c.before.before.before in
     let read = got.before.before.before in
     rw read.before.enum_told.given.1
-    (value_as _ _ got.resolved.ensures c.before.named.given.1 _ (got.before.before.name-fits.ensures ∙ ap nameFits read.byte_at.ensures) got.before.pad-is-zero.ensures)
+    (value_as _ _ got.resolved.ensures c.before.named.given.1 _ (got.before.before.name-fits.ensures ∙ ap name_fits read.byte_at.ensures) got.before.pad-is-zero.ensures)
 
 returns-3 : tie.Need-returns-3
-unfolding zeroRules
+unfolding zero_rules
 returns-3 c =
     let got = c.before.before.before in
     let read = got.before.before.before in
     rw read.before.enum_told.given.1
-    (value_as _ _ got.resolved.ensures c.before.named2.given.1 _ (got.before.before.name-fits.ensures ∙ ap nameFits read.byte_at.ensures) got.before.pad-is-zero.ensures)
+    (value_as _ _ got.resolved.ensures c.before.named2.given.1 _ (got.before.before.name-fits.ensures ∙ ap name_fits read.byte_at.ensures) got.before.pad-is-zero.ensures)
 
-pub symbol-value-spec : {M : Type 1} → statement M
-symbol-value-spec =
+pub symbol_value_spec : {M : Type 1} → statement M
+symbol_value_spec =
     tie.close
     (tie.spec
     enum-known-fit

@@ -1,7 +1,7 @@
 -- `tasks::value_words` meets its contract.
 -- Assumes nothing.
 use native.Mathlib.Omega.{arith}
-use Rattle.tasks.proofs.ValueBytes.{value-as-words}
+use Rattle.tasks.proofs.ValueBytes.{value_as_words}
 use borrow.Author.Rules.{rules}
 use Rattle.tasks.proofs.value_words.Statement.{statement}
 use Rattle.tasks.proofs.value_words.Tie as tie
@@ -37,10 +37,10 @@ add-t12 : tie.Need-overflow-add-t12
 add-t12 c = search rules
 
 returns : tie.Need-returns
-returns c = let a = c.args in value-as-words a.count a.unit a.transaction a.value (omega arith) (omega arith) (omega arith)
+returns c = let a = c.args in value_as_words a.count a.unit a.transaction a.value (omega arith) (omega arith) (omega arith)
 
-pub value-words-spec : {M : Type 1} → statement M
-value-words-spec =
+pub value_words_spec : {M : Type 1} → statement M
+value_words_spec =
     tie.close
     (tie.spec
     cast-sequence

@@ -7,5 +7,5 @@ use Rattle.whole_dump.proofs.number_when.Tie as tie
 returns : tie.Need-returns
 returns c = numbers
 
-pub number-when-spec : {M : Type 1} → statement M
-number-when-spec = tie.close (tie.spec returns)
+pub number_when_spec : {M : Type 1} → statement M
+number_when_spec = tie.close (tie.spec returns)

@@ -2,12 +2,12 @@
 -- Assumes nothing.
 use Rattle.whole_dump.proofs.Numbers.{numbers}
 use Rattle.whole_dump.proofs.Whole.{whole_in}
-use Rattle.whole_dump.proofs.FromCalls.{own-dumps-pass, with-batches}
+use Rattle.whole_dump.proofs.FromCalls.{own_dumps_pass, with_batches}
 use Rattle.whole_dump.proofs.own_dumps_pass.Statement.{statement}
 use Rattle.whole_dump.proofs.own_dumps_pass.Tie as tie
 
 returns : tie.Need-returns
-returns c = let own = own-dumps-pass (whole_in numbers) in (own, with-batches own)
+returns c = let own = own_dumps_pass (whole_in numbers) in (own, with_batches own)
 
-pub own-dumps-pass-spec : {M : Type 1} → statement M
-own-dumps-pass-spec = tie.close (tie.spec returns)
+pub own_dumps_pass_spec : {M : Type 1} → statement M
+own_dumps_pass_spec = tie.close (tie.spec returns)

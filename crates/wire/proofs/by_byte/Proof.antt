@@ -7,5 +7,5 @@ use Rattle.wire.proofs.by_byte.Tie as tie
 returns : tie.Need-returns
 returns c = by_byte
 
-pub by-byte-spec : {M : Type 1} → statement M
-by-byte-spec = tie.close (tie.spec returns)
+pub by_byte_spec : {M : Type 1} → statement M
+by_byte_spec = tie.close (tie.spec returns)

@@ -39,8 +39,8 @@ add-result c = search rules
 returns-2 : tie.Need-returns-2
 returns-2 c = simp add-zero (omega arith)
 
-pub get16-spec : {M : Type 1} → statement M
-get16-spec =
+pub get16_spec : {M : Type 1} → statement M
+get16_spec =
     tie.close
     (tie.spec
     add-if1

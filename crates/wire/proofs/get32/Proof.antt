@@ -69,8 +69,8 @@ add-result-2 c = search rules
 returns-2 : tie.Need-returns-2
 returns-2 c = simp add-zero (omega arith)
 
-pub get32-spec : {M : Type 1} → statement M
-get32-spec =
+pub get32_spec : {M : Type 1} → statement M
+get32_spec =
     tie.close
     (tie.spec
     add-if1

@@ -5,9 +5,9 @@ use Prim.Native.Nat.{◌≤◌, ◌-◌}
 use lib.ListN.{length, take}
 use lib.Seq.{take_all}
 use Rattle.lists.specs.Splice.{splice}
-use Rattle.lists.proofs.Runs.{splice-none}
+use Rattle.lists.proofs.Runs.{splice_none}
 use Rattle.wire.specs.Bytes.{word_bytes}
-use Rattle.wire.proofs.WordRuns.{word-turn}
+use Rattle.wire.proofs.WordRuns.{word_turn}
 use borrow.Author.Rules.{rules}
 use Rattle.wire.proofs.put_run.Statement.{statement}
 use Rattle.wire.proofs.put_run.Tie as tie
@@ -20,7 +20,7 @@ decreases-loop b₀ at words i₀ b i = length words - i
 
 loop-holds : tie.Need-loop-init invariant-loop decreases-loop
 unfolding word_bytes
-loop-holds c = (search rules, sym (splice-none _ _), search rules)
+loop-holds c = (search rules, sym (splice_none _ _), search rules)
 
 mul-put-word : tie.Need-overflow-mul-put-word invariant-loop decreases-loop
 mul-put-word c = search rules
@@ -48,7 +48,7 @@ loop-again c =
     let at-put = c.before.before in
     let at-loop = at-put.before.before.before.before in
     let start = at-loop.before.before.before in
-    let turn = word-turn start.args.b.now at-loop.loop.b at-put.put_word.new.0 start.args.words.now start.args.at at-loop.loop.i at-put.before.before.before.loop-test.true start.requires at-loop.loop.invariant.1 at-put.put_word.ensures in
+    let turn = word_turn start.args.b.now at-loop.loop.b at-put.put_word.new.0 start.args.words.now start.args.at at-loop.loop.i at-put.before.before.before.loop-test.true start.requires at-loop.loop.invariant.1 at-put.put_word.ensures in
     (search rules, turn, search rules)
 
 same_length : tie.Need-same-length invariant-loop decreases-loop
@@ -60,8 +60,8 @@ returns c =
     let h : length ws ≤ c.before.loop.i = c.loop-test.false in
     rw (take_all c.before.loop.i ws h) at c.before.loop.invariant.1
 
-pub put-run-spec : {M : Type 1} → statement M
-put-run-spec =
+pub put_run_spec : {M : Type 1} → statement M
+put_run_spec =
     tie.close
     (tie.spec
     invariant-loop

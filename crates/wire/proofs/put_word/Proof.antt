@@ -4,7 +4,7 @@ use mathlib.Core.Path.{ap, ◌∙◌}
 use native.Mathlib.Omega.{arith}
 use lib.ListN.{length-set}
 use Rattle.lists.specs.Splice.{splice}
-use Rattle.lists.proofs.Runs.{four-stores}
+use Rattle.lists.proofs.Runs.{four_stores}
 use borrow.Author.Rules.{rules}
 use Rattle.wire.proofs.put_word.Statement.{statement}
 use Rattle.wire.proofs.put_word.Tie as tie
@@ -51,10 +51,10 @@ same_length c = search rules
 returns : tie.Need-returns
 returns c =
     let start = c.before.before in
-    four-stores start.args.b.now start.args.at _ _ _ _ start.requires ∙ ap (splice start.args.b.now start.args.at) c.swapped.ensures
+    four_stores start.args.b.now start.args.at _ _ _ _ start.requires ∙ ap (splice start.args.b.now start.args.at) c.swapped.ensures
 
-pub put-word-spec : {M : Type 1} → statement M
-put-word-spec =
+pub put_word_spec : {M : Type 1} → statement M
+put_word_spec =
     tie.close
     (tie.spec
     swapped-requires

@@ -24,6 +24,6 @@ same_length c = search rules
 returns-3 : tie.Need-returns-3
 returns-3 c = (λ h. c.before.before.put-run.ensures, λ n. absurd (omega arith))
 
-pub put-words-spec : {M : Type 1} → statement M
-put-words-spec =
+pub put_words_spec : {M : Type 1} → statement M
+put_words_spec =
     tie.close (tie.spec returns sub-if2 returns-2 put-run-requires same_length returns-3)

@@ -2,7 +2,7 @@
 -- Assumes nothing.
 use native.Mathlib.Nat.{add-zero}
 use native.Mathlib.Omega.{arith}
-use Rattle.wire.proofs.Swap.{two-turned}
+use Rattle.wire.proofs.Swap.{two_turned}
 use borrow.Author.Rules.{rules}
 use Rattle.wire.proofs.read16.Statement.{statement}
 use Rattle.wire.proofs.read16.Tie as tie
@@ -35,11 +35,11 @@ returns : tie.Need-returns
 returns c =
     let second = c.before in
     let first = second.before.before in
-    let turned = two-turned first.wide16.result second.wide162.result c.swapped16.result (omega arith) (omega arith) (omega arith) c.swapped16.ensures in
+    let turned = two_turned first.wide16.result second.wide162.result c.swapped16.result (omega arith) (omega arith) (omega arith) c.swapped16.ensures in
     simp add-zero (omega arith)
 
-pub read16-spec : {M : Type 1} → statement M
-read16-spec =
+pub read16_spec : {M : Type 1} → statement M
+read16_spec =
     tie.close
     (tie.spec
     shared-slice-read-wide16

@@ -2,7 +2,7 @@
 -- Assumes nothing.
 use native.Mathlib.Nat.{add-zero}
 use native.Mathlib.Omega.{arith}
-use Rattle.wire.proofs.Swap.{four-turned}
+use Rattle.wire.proofs.Swap.{four_turned}
 use borrow.Author.Rules.{rules}
 use Rattle.wire.proofs.read32.Statement.{statement}
 use Rattle.wire.proofs.read32.Tie as tie
@@ -67,11 +67,11 @@ returns c =
     let third = fourth.before.before in
     let second = third.before.before in
     let first = second.before.before in
-    let turned = four-turned first.wide32.result second.wide322.result third.wide323.result fourth.wide324.result c.swapped.result (omega arith) (omega arith) (omega arith) (omega arith) (omega arith) c.swapped.ensures in
+    let turned = four_turned first.wide32.result second.wide322.result third.wide323.result fourth.wide324.result c.swapped.result (omega arith) (omega arith) (omega arith) (omega arith) (omega arith) c.swapped.ensures in
     simp add-zero (omega arith)
 
-pub read32-spec : {M : Type 1} → statement M
-read32-spec =
+pub read32_spec : {M : Type 1} → statement M
+read32_spec =
     tie.close
     (tie.spec
     shared-slice-read-wide32

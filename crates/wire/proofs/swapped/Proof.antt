@@ -2,7 +2,7 @@
 -- Assumes nothing.
 use Prim.Native.Nat.{◌/◌, ◌%◌}
 use native.Mathlib.Omega.{arith}
-use Rattle.wire.proofs.Swap.{bytes-of-four}
+use Rattle.wire.proofs.Swap.{bytes_of_four}
 use borrow.Author.Rules.{rules}
 use Rattle.wire.proofs.swapped.Statement.{statement}
 use Rattle.wire.proofs.swapped.Tie as tie
@@ -28,9 +28,9 @@ add-result-3 c = search rules
 returns : tie.Need-returns
 returns c =
     let x = c.args.x in
-    bytes-of-four (x % 256) (x / 256 % 256) (x / 256 / 256 % 256) (x / 256 / 256 / 256 % 256) (omega arith) (omega arith) (omega arith) (omega arith)
+    bytes_of_four (x % 256) (x / 256 % 256) (x / 256 / 256 % 256) (x / 256 / 256 / 256 % 256) (omega arith) (omega arith) (omega arith) (omega arith)
 
-pub swapped-spec : {M : Type 1} → statement M
-swapped-spec =
+pub swapped_spec : {M : Type 1} → statement M
+swapped_spec =
     tie.close
     (tie.spec mul-result mul-result-2 add-result mul-result-3 add-result-2 add-result-3 returns)

@@ -3,7 +3,7 @@
 use mathlib.Core.Path.{◌≡◌}
 use Prim.Native.Nat.{◌/◌, ◌%◌}
 use native.Mathlib.Omega.{arith}
-use Rattle.wire.proofs.Swap.{bytes-of-two}
+use Rattle.wire.proofs.Swap.{bytes_of_two}
 use borrow.Author.Rules.{rules}
 use Rattle.wire.proofs.swapped16.Statement.{statement}
 use Rattle.wire.proofs.swapped16.Tie as tie
@@ -18,7 +18,7 @@ returns : tie.Need-returns
 returns c =
     let x = c.args.x in
     let high : x / 256 % 256 ≡ x / 256 = omega arith in
-    rw high (bytes-of-two (x % 256) (x / 256) (omega arith) (omega arith))
+    rw high (bytes_of_two (x % 256) (x / 256) (omega arith) (omega arith))
 
-pub swapped16-spec : {M : Type 1} → statement M
-swapped16-spec = tie.close (tie.spec mul-result add-result returns)
+pub swapped16_spec : {M : Type 1} → statement M
+swapped16_spec = tie.close (tie.spec mul-result add-result returns)

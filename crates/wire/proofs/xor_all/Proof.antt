@@ -5,19 +5,19 @@ use Prim.Native.Nat.{◌≤◌, ◌-◌}
 use native.Mathlib.Omega.{arith}
 use lib.Bits.{bit_xor}
 use lib.ListN.{length, drop}
-use Rattle.wire.specs.Xor.{xorAll}
-use Rattle.wire.proofs.Xor.{eight-lanes, eight-turns, xor-turn, xor-end}
+use Rattle.wire.specs.Xor.{xor_all}
+use Rattle.wire.proofs.Xor.{eight_lanes, eight_turns, xor_turn, xor_end}
 use Rattle.wire.proofs.xor_all.Statement.{statement}
 use Rattle.wire.proofs.xor_all.Tie as tie
 
 abbrev invariant-loop : tie.invariant-loop
-invariant-loop s a₀ b₀ c₀ d₀ e₀ f₀ g₀ h₀ i₀ a b c d e f g h i = (i ≤ length s) × (bit_xor (eight-lanes a b c d e f g h) (xorAll (drop i s)) ≡ xorAll s)
+invariant-loop s a₀ b₀ c₀ d₀ e₀ f₀ g₀ h₀ i₀ a b c d e f g h i = (i ≤ length s) × (bit_xor (eight_lanes a b c d e f g h) (xor_all (drop i s)) ≡ xor_all s)
 
 abbrev decreases-loop : tie.decreases-loop
 decreases-loop s a₀ b₀ c₀ d₀ e₀ f₀ g₀ h₀ i₀ a b c d e f g h i = length s - i
 
 abbrev invariant-loop2 : tie.invariant-loop2
-invariant-loop2 s a b c d e f g h i₀ x₀ i x = (i ≤ length s) × (bit_xor x (xorAll (drop i s)) ≡ xorAll s)
+invariant-loop2 s a b c d e f g h i₀ x₀ i x = (i ≤ length s) × (bit_xor x (xor_all (drop i s)) ≡ xor_all s)
 
 abbrev decreases-loop2 : tie.decreases-loop2
 decreases-loop2 s a b c d e f g h i₀ x₀ i x = length s - i
@@ -83,7 +83,7 @@ loop-again : tie.Need-loop-preserved invariant-loop decreases-loop invariant-loo
 loop-again c =
     let at = c.before.before.before.before.before.before.before.before.before in
     let l = at.loop in
-    (omega arith, eight-turns l.a l.b l.c l.d l.e l.f l.g l.h at.before.args.s.now l.i (omega arith) ∙ l.invariant.1)
+    (omega arith, eight_turns l.a l.b l.c l.d l.e l.f l.g l.h at.before.args.s.now l.i (omega arith) ∙ l.invariant.1)
 
 loop2-holds : tie.Need-loop2-init invariant-loop decreases-loop invariant-loop2 decreases-loop2
 loop2-holds c = let l = c.before.loop in (l.invariant.0, l.invariant.1)
@@ -101,16 +101,16 @@ loop2-again : tie.Need-loop2-preserved invariant-loop decreases-loop invariant-l
 loop2-again c =
     let at = c.before.before in
     let l = at.loop2 in
-    (omega arith, xor-turn at.before.before.before.args.s.now l.i l.x c.before.loop2-test.true ∙ l.invariant.1)
+    (omega arith, xor_turn at.before.before.before.args.s.now l.i l.x c.before.loop2-test.true ∙ l.invariant.1)
 
 returns : tie.Need-returns invariant-loop decreases-loop invariant-loop2 decreases-loop2
 returns c =
     let at = c.before in
     let l = at.loop2 in
-    sym (xor-end at.before.before.before.args.s.now l.i l.x c.loop2-test.false) ∙ l.invariant.1
+    sym (xor_end at.before.before.before.args.s.now l.i l.x c.loop2-test.false) ∙ l.invariant.1
 
-pub xor-all-spec : {M : Type 1} → statement M
-xor-all-spec =
+pub xor_all_spec : {M : Type 1} → statement M
+xor_all_spec =
     tie.close
     (tie.spec
     invariant-loop

@@ -3,7 +3,7 @@
 use Prim.Native.Nat.{◌%◌}
 use lib.Bits.{xor_zero_r}
 use borrow.Author.Rules.{rules}
-use Rattle.wire.specs.Xor.{xorAll}
+use Rattle.wire.specs.Xor.{xor_all}
 use Rattle.wire.proofs.xor_word.Statement.{statement}
 use Rattle.wire.proofs.xor_word.Tie as tie
 
@@ -20,8 +20,8 @@ cast-result-2 : tie.Need-overflow-cast-result-2
 cast-result-2 c = search rules
 
 returns : tie.Need-returns
-unfolding xorAll
+unfolding xor_all
 returns c = rw (xor_zero_r (c.args.x % 256))
 
-pub xor-word-spec : {M : Type 1} → statement M
-xor-word-spec = tie.close (tie.spec cast-low cast-low-2 cast-result cast-result-2 returns)
+pub xor_word_spec : {M : Type 1} → statement M
+xor_word_spec = tie.close (tie.spec cast-low cast-low-2 cast-result cast-result-2 returns)

@@ -36,8 +36,8 @@ returns c =
 returns-2 : tie.Need-returns-2
 returns-2 c = sym (drop_of_length-le _ c.before.if1.false)
 
-pub after-spec : {M : Type 1} → statement M
-after-spec =
+pub after_spec : {M : Type 1} → statement M
+after_spec =
     tie.close
     (tie.spec
     sub-result
