@@ -1,17 +1,19 @@
 // The answer record of an item of a batch, and a lent list of such records.
+#![tactic(auto)]
+
 ghost use Rattle.std.specs.Prelude.{◌≡◌, ◌≤◌, min, length, get_or};
 ghost use Rattle.answers.specs.Records.{answers_of, record_at, put_records};
 
 // What an item got: its number, and the length of its reply.
 #[repr(C)]
-#[derive(Drop)]
+#[derive(Clone, Copy)]
 pub struct ItemAnswer {
     pub number: u32,
     pub length: u32,
 }
 
 // The answers of up to 64 items: the first `filled` numbers and lengths.
-#[derive(Drop)]
+#[derive(Clone, Copy)]
 pub struct Answered {
     pub number: u32,
     pub numbers: [u8; 64],

@@ -1,4 +1,6 @@
 // Many commands in one call on a State (paper 02, A1): the single calls in order.
+#![tactic(auto)]
+
 ghost use Rattle.std.specs.Prelude.{◌≡◌, false, ◌+◌, ◌*◌, ◌≤◌, ◌<◌, min, length, set, take, drop};
 ghost use Rattle.lists.specs.Splice.{splice};
 ghost use Rattle.rules.specs.Results.{verdict_number};
@@ -11,7 +13,7 @@ use results::{answer_length, answer_number, verdict_number};
 use rules::{State, Verdict};
 
 // What a batch returns, and its answers by value.
-#[derive(Drop)]
+#[derive(Clone, Copy)]
 struct BatchAnswered {
     returned: BatchReturned,
     answers: Answered,

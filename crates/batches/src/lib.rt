@@ -1,4 +1,6 @@
 // Many commands in one call (paper 02, A1): its definition, the theorems about it, and what both stores do alike.
+#![tactic(auto)]
+
 ghost use Rattle.std.specs.Prelude.{◌≡◌, cond, min};
 ghost use Rattle.rules.specs.declared.Refusal.TheVariants.{BufferLength};
 ghost use Rattle.rules.specs.declared.Verdict.TheVariants.{Accepted, Rejected};
@@ -11,7 +13,7 @@ ghost use Rattle.batches.specs.Lists.{Demand3WithBatches, ItemsAreCalls, StaysGo
 use rules::{Refusal, State, Verdict};
 
 // What a batch returns beside the image, the buffer and the answers that it leaves.
-#[derive(Drop)]
+#[derive(Clone, Copy)]
 pub struct BatchReturned {
     pub verdict: Verdict,
     pub state: State,

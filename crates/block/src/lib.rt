@@ -1,5 +1,7 @@
 // Blocks of the C interface, words of 32 bits in the caller's memory: a word, a range and a run of words, read and written. What a block
 // says of a state is in specs/Blocks.antt.
+#![tactic(auto)]
+
 ghost use Rattle.std.specs.Prelude.{◌≡◌, ◌+◌, ◌%◌, ◌≤◌, length, set};
 ghost use Rattle.lists.specs.Splice.{splice};
 ghost use Rattle.block.specs.Blocks.{word, range_in};

@@ -1,4 +1,6 @@
 // The bulk work: a dump packet written into a buffer, a load written into the image, and words cut out of it.
+#![tactic(auto)]
+
 ghost use Rattle.std.specs.Prelude.{◌≡◌, true, false, [], ◌+◌, ◌*◌, ◌≤◌, ◌<◌, min, length, take, drop};
 ghost use Rattle.lists.specs.Splice.{splice};
 ghost use Rattle.wire.specs.Bytes.{be_at, word_bytes, words_at};

@@ -1,4 +1,6 @@
 // Theorems about the C interface. These functions do nothing: the contract of each is what is proved.
+#![tactic(auto)]
+
 ghost use Rattle.c_theorems.specs.BatchesFromC.{BatchesFromC};
 ghost use Rattle.c_theorems.specs.Examples.{Examples};
 ghost use Rattle.c_theorems.specs.FromC.{FromC};

@@ -1,4 +1,6 @@
 // The C interface: the calls of the service over blocks of words that a C caller lends. Its header is c/leatgarnet.h.
+#![tactic(auto)]
+
 ghost use Rattle.std.specs.Prelude.{◌≡◌, length};
 ghost use Rattle.block.specs.Calls.{lg_start_up, lg_slot, lg_command};
 ghost use Rattle.rules.specs.Results.{verdict_number};

@@ -1,4 +1,6 @@
 // The command call on a State: the facts from its parts, the decision, and the state after it.
+#![tactic(auto)]
+
 ghost use Rattle.std.specs.Prelude.{◌≡◌, true, cond, List, ℕ, ◌+◌, ◌%◌, ◌≤◌, ◌<◌, length};
 ghost use Rattle.rules.specs.Regions.{image_length};
 ghost use Rattle.rules.specs.States.{pool_at, good_state};

@@ -1,4 +1,6 @@
 // The command reader: 4, 5, 6, 7, 9 or the fields, for any bytes of any length.
+#![tactic(auto)]
+
 ghost use Rattle.std.specs.Prelude.{◌≡◌, ◌≤◌, ◌<◌, length};
 ghost use Rattle.lists.specs.Splice.{splice};
 ghost use Rattle.rules.specs.Ground.{no_words, words_beside, read_command};

@@ -1,4 +1,6 @@
 // The command writer: 3, 9, or the packet at the start of the buffer. Later bytes stay, and after a refusal all do.
+#![tactic(auto)]
+
 ghost use Rattle.std.specs.Prelude.{◌≡◌, ◌++◌, ◌*◌, ◌≤◌, ◌<◌, length, get_or, set, take, drop, replicate};
 ghost use Rattle.std.specs.Int.Bits.{bit_xor};
 ghost use Rattle.lists.specs.Splice.{splice};

@@ -1,4 +1,6 @@
 // The decisions of the command call: pure functions on facts. A store of the state supplies the facts and carries the decision out.
+#![tactic(auto)]
+
 ghost use Rattle.std.specs.Prelude.{◌≡◌};
 ghost use Rattle.rules.specs.Results.{counted};
 ghost use Rattle.decide.specs.Decisions.{decide_dump, decide_cancel, decide_load, decide_pool, answer_of, image_after, reply_after, Decided};
@@ -13,20 +15,20 @@ use tasks::put_value;
 // WHAT CAN BE DECIDED
 
 // A cancelled dump's place.
-#[derive(Drop)]
+#[derive(Clone, Copy)]
 pub struct Freed {
     pub place: usize,
 }
 
 // Where a load's words go, and how many there are.
-#[derive(Drop)]
+#[derive(Clone, Copy)]
 pub struct Stored {
     pub at: WordIndex,
     pub words: usize,
 }
 
 // What a reply to pool statistics tells.
-#[derive(Drop)]
+#[derive(Clone, Copy)]
 pub struct Report {
     pub header: Header,
     pub pool: u16,
@@ -34,14 +36,14 @@ pub struct Report {
 }
 
 // What a reply tells of a symbol.
-#[derive(Drop)]
+#[derive(Clone, Copy)]
 pub struct Told {
     pub header: Header,
     pub value: u32,
 }
 
 // What a command call does.
-#[derive(Drop)]
+#[derive(Clone, Copy)]
 pub enum Decision {
     Refuse(Refusal),
     Dump(Seat),

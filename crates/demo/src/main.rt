@@ -1,5 +1,7 @@
 // A pass of the memory service that a person can follow: start-up, a dump, a load, pool statistics, slots until the dump is whole,
 // commands that are refused, a symbol's value and a dump by its name. Each packet is printed in hex with its fields named, each answer with what its number means.
+#![tactic(auto)]
+
 use command_writer::write_command;
 use report::{front, result, say, show_answer, show_command};
 use results::answer_length;

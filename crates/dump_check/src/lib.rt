@@ -1,4 +1,6 @@
 // The ground desk's check of a whole dump (paper 02, A6). It reads the packets' headers, and no data word.
+#![tactic(auto)]
+
 ghost use Rattle.std.specs.Prelude.{◌≡◌, ◌*◌, ◌/◌, ◌≤◌, ◌<◌, eqb, length, get_or, replicate};
 ghost use Rattle.lists.specs.Below.{first_below};
 ghost use Rattle.rules.specs.Ground.{packet_fields};

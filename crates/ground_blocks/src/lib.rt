@@ -1,4 +1,6 @@
 // The command block and the dump packet block of the C interface: fields read from words, and words made of fields.
+#![tactic(auto)]
+
 ghost use Rattle.std.specs.Prelude.{◌≡◌, min};
 ghost use Rattle.ground_blocks.specs.Fields.{header_in, size_in, request_in, symbol_request_in, command_in, body_words, head_words, tail_words, field_words};
 ghost use Rattle.ground_blocks.specs.RoundTrip.{CommandRoundTrip};

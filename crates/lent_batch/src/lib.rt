@@ -1,5 +1,7 @@
 // Many commands in one call on a block of words (paper 02, A1): the single calls in order. The state is tested once, since a command leaves a good state
 // good and any other as it was; and so is the symbol table, which no command writes.
+#![tactic(auto)]
+
 ghost use Rattle.std.specs.Prelude.{◌≡◌, false, ◌+◌, ◌*◌, ◌≤◌, ◌<◌, min, length, set, take, drop};
 ghost use Rattle.lists.specs.Splice.{splice};
 ghost use Rattle.rules.specs.Results.{verdict_number};

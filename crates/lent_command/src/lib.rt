@@ -1,4 +1,6 @@
 // The command call on a block of words: the facts from the words, the decision, and the words that change.
+#![tactic(auto)]
+
 ghost use Rattle.std.specs.Prelude.{◌≡◌, true, ◌&&◌, List, ℕ, length};
 ghost use Rattle.rules.specs.States.{good_state};
 ghost use Rattle.block.specs.Blocks.{state_of, is_block};

@@ -1,5 +1,7 @@
 // The dump places of a block: 20 words, five to a place (busy, transaction, start, words, sent), read and written in the caller's memory.
 // Words past the end read as 0. What one place does is in places.
+#![tactic(auto)]
+
 ghost use Rattle.std.specs.Prelude.{◌≡◌, ◌||◌, ◌*◌, ◌<◌, min, leb};
 ghost use Rattle.rules.specs.States.{context_at, busy_with};
 ghost use Rattle.rules.specs.Commands.{is_idle, first_idle};

@@ -1,4 +1,6 @@
 // The region table of a block: 48 words, three to a region (start, size, rights), in the caller's memory. The rules of one region are in regions.
+#![tactic(auto)]
+
 ghost use Rattle.std.specs.Prelude.{◌≡◌, true, ℕ, ◌*◌, ◌≤◌, min, length};
 ghost use Rattle.rules.specs.Regions.{table_rules, words_below};
 ghost use Rattle.regions.specs.Halving.{region_by_halving, compared, AtMostFive};

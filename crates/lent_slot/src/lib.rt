@@ -1,4 +1,6 @@
 // The slot call on a block of words: the next packet of the dump whose turn it is, or 1, 2, 3 or 16.
+#![tactic(auto)]
+
 ghost use Rattle.std.specs.Prelude.{◌≡◌, true, ◌&&◌, List, ℕ, length};
 ghost use Rattle.rules.specs.States.{good_state};
 ghost use Rattle.block.specs.Blocks.{state_of, is_block};

@@ -1,4 +1,6 @@
 // The state in a block of the caller's memory: whether it is good, and start-up. The regions, pools and places of a block are parts of it.
+#![tactic(auto)]
+
 ghost use Rattle.std.specs.Prelude.{◌≡◌, true, ◌&&◌, ◌<◌, ◌≤◌, length, replicate};
 ghost use Rattle.lists.specs.Below.{all_below};
 ghost use Rattle.rules.specs.Regions.{table_rules};

@@ -1,4 +1,6 @@
 // Numbers 1 to 9, 17 and 18 of a call, or what it is asked: pure functions on facts, for the decisions of both calls.
+#![tactic(auto)]
+
 ghost use Rattle.std.specs.Prelude.{◌≡◌};
 ghost use Rattle.symbols.specs.Answers.{KnownOf};
 ghost use Rattle.opening.specs.Opening.{lent_by, opened_by};

@@ -1,4 +1,6 @@
 // Fields of packets, and the rules on them, that more than one call needs.
+#![tactic(auto)]
+
 ghost use Rattle.std.specs.Prelude.{◌≡◌, ◌&&◌, ◌%◌, leb, eqb, get_or};
 ghost use Rattle.wire.specs.Bytes.{be_at};
 ghost use Rattle.rules.specs.Packets.{primary_rules, header_at, well_formed, function_code_of, command_unit, command_transaction, request_of, symbol_request_of, name_fits, field_rules, code_of, packet_length};

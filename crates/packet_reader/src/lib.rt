@@ -1,4 +1,6 @@
 // The dump packet reader: 4, 5, 7, 9 or the fields, for any bytes of any length, and the data part of the caller's own packet.
+#![tactic(auto)]
+
 ghost use Rattle.std.specs.Prelude.{◌≡◌, ◌≤◌, length};
 ghost use Rattle.rules.specs.Ground.{packet_fields, could_be_dumped, is_cut, cut_rules, packet_rows, read_packet};
 ghost use Rattle.rules.specs.Results.{lowest};

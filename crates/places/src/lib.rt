@@ -1,4 +1,6 @@
 // Dump places: what one does, and the four of a State. The four of a block of words are in lent_places.
+#![tactic(auto)]
+
 ghost use Rattle.std.specs.Prelude.{◌≡◌, List, ℕ, ◌≤◌, length};
 ghost use Rattle.rules.specs.States.{context_at, busy_with};
 ghost use Rattle.rules.specs.Commands.{is_idle, first_idle, set_context};
@@ -9,14 +11,14 @@ ghost use Rattle.rules.specs.declared.Place.{Place};
 use rules::{ActiveDump, Context, Place};
 
 // A dump and its place.
-#[derive(Drop)]
+#[derive(Clone, Copy)]
 pub struct Seat {
     pub place: usize,
     pub dump: ActiveDump,
 }
 
 // Whose packet is next.
-#[derive(Drop)]
+#[derive(Clone, Copy)]
 pub enum Turn {
     Nobody,
     Next(Seat),

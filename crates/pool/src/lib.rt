@@ -1,4 +1,6 @@
 // The walk over a pool's blocks, and the bytes of the reply that tells its figures.
+#![tactic(auto)]
+
 ghost use Rattle.std.specs.Prelude.{◌≡◌, cond, List, ℕ, ◌+◌, ◌-◌, ◌%◌, ◌≤◌, ◌<◌, length};
 ghost use Rattle.lists.specs.Splice.{splice};
 ghost use Rattle.wire.specs.Bytes.{word_bytes};
@@ -8,7 +10,7 @@ ghost use Rattle.pool.specs.Answers.{tallied, walked_of, figure_bytes, WalkedNum
 use wire::put_words;
 
 // Free words, free blocks, usable words of the largest free block; used words, used blocks.
-#[derive(Drop)]
+#[derive(Clone, Copy)]
 pub struct Figures {
     pub free: usize,
     pub freeblocks: usize,
@@ -17,14 +19,14 @@ pub struct Figures {
     pub usedblocks: usize,
 }
 
-#[derive(Drop)]
+#[derive(Clone, Copy)]
 pub enum Walked {
     Damaged,
     Whole(Figures),
 }
 
 // What the walk carries: the free blocks' figures, and how many blocks there are. What is used is the rest of the words and blocks passed.
-#[derive(Drop)]
+#[derive(Clone, Copy)]
 struct Tally {
     free: usize,
     freeblocks: usize,

@@ -1,4 +1,6 @@
 // Regions: the rules of one, what a lookup answers, and the table of a State. The table of a block of words is in lent_regions.
+#![tactic(auto)]
+
 ghost use Rattle.std.specs.Prelude.{◌≡◌, true, List, ℕ, ◌+◌, ◌*◌, ◌-◌, ◌/◌, ◌≤◌, min, length};
 ghost use Rattle.rules.specs.Regions.{table_rules, first_of, words_below};
 ghost use Rattle.regions.specs.Halving.{region_by_halving, compared, AtMostFive, NumberSettled, RightInOrder, find_by_halving};
@@ -10,7 +12,7 @@ ghost use Rattle.rules.specs.declared.Region.{Region};
 use rules::{Range, Region, WordIndex};
 
 // The region that holds a range whole: its number and rights.
-#[derive(Drop)]
+#[derive(Clone, Copy)]
 pub struct Spot {
     pub region: u8,
     pub load: bool,
@@ -18,7 +20,7 @@ pub struct Spot {
 }
 
 // The region that a range lies in; or that its first word is in no region, or that it starts inside a region and runs out of it.
-#[derive(Drop)]
+#[derive(Clone, Copy)]
 pub enum Found {
     At(Spot),
     StartsOutside,
@@ -26,7 +28,7 @@ pub enum Found {
 }
 
 // What a search answers: the region, or the number of entries looked at where none holds the range; and how many regions it compared.
-#[derive(Drop)]
+#[derive(Clone, Copy)]
 pub struct Searched {
     pub region: usize,
     pub compared: usize,

@@ -1,4 +1,6 @@
 // What the demonstration program prints. Every line but the first starts with its line feed.
+#![tactic(auto)]
+
 mod fields;
 mod form;
 

@@ -1,4 +1,6 @@
 // Paper 01's number, and the length, of each answer.
+#![tactic(auto)]
+
 ghost use Rattle.std.specs.Prelude.{◌≡◌, ◌%◌};
 ghost use Rattle.rules.specs.Ground.{reading_number, packet_number};
 ghost use Rattle.rules.specs.Results.{number, verdict_number, answer_number, answer_length};

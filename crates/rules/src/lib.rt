@@ -1,4 +1,6 @@
 // The types of the memory service, and paper 01's examples and demands as theorems over the definitions in specs/.
+#![tactic(auto)]
+
 ghost use Rattle.rules.specs.Examples.{Examples};
 ghost use Rattle.rules.specs.FurtherExamples.{FurtherExamples};
 ghost use Rattle.rules.specs.NumberExamples.{NumberExamples};
@@ -18,22 +20,22 @@ ghost use Rattle.rules.specs.Replies.{Replies};
 ghost use Rattle.rules.specs.PoolsApart.{PoolsApart};
 
 // A byte address.
-#[derive(Drop)]
+#[derive(Clone, Copy)]
 pub struct Address(pub u32);
 
 // A word's index in the image. Only the region lookup makes one from an Address.
-#[derive(Drop)]
+#[derive(Clone, Copy)]
 pub struct WordIndex(pub usize);
 
 // Words from a byte address on.
-#[derive(Drop)]
+#[derive(Clone, Copy)]
 pub struct Range {
     pub start: Address,
     pub words: u32,
 }
 
 // A region of the table, with its load right and its dump right.
-#[derive(Drop)]
+#[derive(Clone, Copy)]
 pub struct Region {
     pub range: Range,
     pub load: bool,
@@ -41,7 +43,7 @@ pub struct Region {
 }
 
 // A dump under way: its transaction number, what was requested, and how many words were sent.
-#[derive(Drop)]
+#[derive(Clone, Copy)]
 pub struct ActiveDump {
     pub transaction: u16,
     pub range: Range,
@@ -49,21 +51,21 @@ pub struct ActiveDump {
 }
 
 // What a dump place does. Idle is first: it is what an unset element of an array holds.
-#[derive(Drop)]
+#[derive(Clone, Copy)]
 pub enum Context {
     Idle,
     Busy(ActiveDump),
 }
 
 // One of the four dump places.
-#[derive(Drop)]
+#[derive(Clone, Copy)]
 pub struct Place {
     pub context: Context,
 }
 
 // The state of the service, handed in and returned by value. Of the sixteen regions the first `count` are in use.
 // `last` is the place served last; `replies`, `values` and `packets` are the packet counts of APID 785, 786 and 788.
-#[derive(Drop)]
+#[derive(Clone, Copy)]
 pub struct State {
     pub regions: [Region; 16],
     pub count: usize,
@@ -79,7 +81,7 @@ pub struct State {
 }
 
 // What every packet carries: sequence count, unit and transaction.
-#[derive(Drop)]
+#[derive(Clone, Copy)]
 pub struct Header {
     pub count: u16,
     pub unit: u8,
@@ -87,7 +89,7 @@ pub struct Header {
 }
 
 // The size in words and the address of a dump or a load, as their packets carry them.
-#[derive(Drop)]
+#[derive(Clone, Copy)]
 pub struct Request {
     pub size: u16,
     pub address: Address,
@@ -95,7 +97,7 @@ pub struct Request {
 
 // What a dump by name asks for: how many bytes its symbol's name has, the offset in bytes from the symbol's value (two's complement), and
 // the size in words.
-#[derive(Drop)]
+#[derive(Clone, Copy)]
 pub struct SymbolRequest {
     pub name: u8,
     pub offset: u32,
@@ -104,7 +106,7 @@ pub struct SymbolRequest {
 
 // The commands. Twelve words stand beside a command, since an enum holds no array: the eleven data words of a load, or the 48 bytes of a
 // symbol's name, of which the command holds the size.
-#[derive(Drop)]
+#[derive(Clone, Copy)]
 pub enum Command {
     Dump(Request),
     Cancel,
@@ -115,7 +117,7 @@ pub enum Command {
 }
 
 // What a function code names.
-#[derive(Drop)]
+#[derive(Clone, Copy)]
 pub enum Decoded {
     Unknown,
     Known(Command),
@@ -123,7 +125,7 @@ pub enum Decoded {
 
 // What a command asks the service to do, once its symbol is resolved: a dump by name is the dump of a range, and the value of a symbol is a
 // number to tell.
-#[derive(Drop)]
+#[derive(Clone, Copy)]
 pub enum Task {
     Nothing,
     DumpRange(Range),
@@ -134,7 +136,7 @@ pub enum Task {
 }
 
 // Why a call is refused: one variant for each number from 1 to 19, in that order.
-#[derive(Drop)]
+#[derive(Clone, Copy)]
 pub enum Refusal {
     BadState,
     ImageLength,
@@ -158,62 +160,62 @@ pub enum Refusal {
 }
 
 // The outcome of a call's tests.
-#[derive(Drop)]
+#[derive(Clone, Copy)]
 pub enum Verdict {
     Accepted,
     Rejected(Refusal),
 }
 
 // What start-up gives.
-#[derive(Drop)]
+#[derive(Clone, Copy)]
 pub struct Started {
     pub verdict: Verdict,
     pub state: State,
 }
 
 // How many bytes a call wrote to the buffer that it was lent.
-#[derive(Drop)]
+#[derive(Clone, Copy)]
 pub struct Written {
     pub length: usize,
 }
 
 // What a command call, a slot call and the command writer answer.
-#[derive(Drop)]
+#[derive(Clone, Copy)]
 pub enum Answer {
     Refused(Refusal),
     Done(Written),
 }
 
 // What a command call and a slot call return beside the image and the buffer that they leave.
-#[derive(Drop)]
+#[derive(Clone, Copy)]
 pub struct Returned {
     pub answer: Answer,
     pub state: State,
 }
 
 // A command packet's fields. The words of a load or of a name stand beside it.
-#[derive(Drop)]
+#[derive(Clone, Copy)]
 pub struct Telecommand {
     pub header: Header,
     pub command: Command,
 }
 
 // What the command reader answers.
-#[derive(Drop)]
+#[derive(Clone, Copy)]
 pub enum Reading {
     Unread(Refusal),
     Read(Telecommand),
 }
 
 // What the command reader gives: its answer, and twelve words beside it: a load's eleven and 0, a symbol's name, or zeros.
-#[derive(Drop)]
+#[derive(Clone, Copy)]
 pub struct CommandRead {
     pub reading: Reading,
     pub words: [u32; 12],
 }
 
 // A dump packet's fields: what was requested, the address of this packet's data, and how many words it has.
-#[derive(Drop)]
+#[derive(Clone, Copy)]
 pub struct DumpPacket {
     pub header: Header,
     pub tick: u32,
@@ -223,7 +225,7 @@ pub struct DumpPacket {
 }
 
 // What the dump packet reader answers.
-#[derive(Drop)]
+#[derive(Clone, Copy)]
 pub enum PacketReading {
     NoPacket(Refusal),
     Packet(DumpPacket),

@@ -1,4 +1,6 @@
 // The decisions of the slot call: pure functions on facts. A store of the state supplies the facts and carries the decision out.
+#![tactic(auto)]
+
 ghost use Rattle.std.specs.Prelude.{◌≡◌, ◌+◌, ◌*◌, ◌-◌, ◌%◌, min};
 ghost use Rattle.rules.specs.declared.Refusal.TheVariants.{NothingToSend};
 ghost use Rattle.sending.specs.declared.Sending.TheVariants.{Keep};
@@ -12,7 +14,7 @@ use rules::{Address, Answer, Context, DumpPacket, Header, Refusal, WordIndex, Wr
 // WHAT CAN BE DECIDED
 
 // A dump's next packet, where its words are, and what its place does then.
-#[derive(Drop)]
+#[derive(Clone, Copy)]
 pub struct Piece {
     pub packet: DumpPacket,
     pub from: WordIndex,
@@ -21,7 +23,7 @@ pub struct Piece {
 }
 
 // What a slot call does.
-#[derive(Drop)]
+#[derive(Clone, Copy)]
 pub enum Sending {
     Keep(Refusal),
     Send(Piece),

@@ -1,4 +1,6 @@
 // The slot call on a State: the next packet of the dump whose turn it is, or 1, 2, 3 or 16.
+#![tactic(auto)]
+
 ghost use Rattle.std.specs.Prelude.{◌≡◌, true, cond, List, ℕ, length};
 ghost use Rattle.rules.specs.Regions.{image_length};
 ghost use Rattle.rules.specs.States.{good_state};

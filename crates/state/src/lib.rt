@@ -1,4 +1,6 @@
 // The good state, start-up, and the lookup.
+#![tactic(auto)]
+
 ghost use Rattle.std.specs.Prelude.{◌≡◌, true, cond, ◌≤◌};
 ghost use Rattle.rules.specs.Regions.{table_rules, image_length};
 ghost use Rattle.rules.specs.States.{pool_rules, start_rules, entries_used, fresh_state, no_state, start_up, dump_rules, place_rules, places_rules, count_rules, good_state};

@@ -1,4 +1,6 @@
 // The symbol table lent to a command call: whether bytes are one, and what a name resolves to in it.
+#![tactic(auto)]
+
 ghost use Rattle.std.specs.Prelude.{◌≡◌, true, not, List, ℕ, ◌+◌, ◌*◌, ◌≤◌, ◌<◌, length, take, drop};
 ghost use Rattle.lists.specs.Below.{all_below, any_below};
 ghost use Rattle.wire.specs.Bytes.{be_at};
@@ -11,7 +13,7 @@ ghost use Rattle.symbols.specs.Words.{name_words, has_first, has_words};
 use wire::{get16, get32};
 
 // What is known of a table: nothing yet, that it is one, or that it is none.
-#[derive(Drop)]
+#[derive(Clone, Copy)]
 pub enum Known {
     Untested,
     Right,
@@ -19,7 +21,7 @@ pub enum Known {
 }
 
 // What a name resolves to.
-#[derive(Drop)]
+#[derive(Clone, Copy)]
 pub enum Symbol {
     NoTable,
     Unknown,
@@ -78,7 +80,7 @@ fn get64(p: &[u8], at: u16) -> u64
 }
 
 // The length byte of a record, and its name field as six numbers.
-#[derive(Drop)]
+#[derive(Clone, Copy)]
 struct NameWords {
     n: u8,
     a: u64,

@@ -1,4 +1,6 @@
 // What a command asks the service to do, once its symbol is resolved; and the reply that tells a symbol's value.
+#![tactic(auto)]
+
 ghost use Rattle.std.specs.Prelude.{◌≡◌, ℕ, ◌%◌, ◌≤◌, ◌<◌, length, List};
 ghost use Rattle.lists.specs.Splice.{splice};
 ghost use Rattle.wire.specs.Bytes.{word_bytes};
@@ -18,14 +20,14 @@ use symbols::{Known, Symbol, symbol_of};
 use wire::{byte_at, get16, put_words};
 
 // A command's task, or why it has none.
-#[derive(Drop)]
+#[derive(Clone, Copy)]
 pub enum Sought {
     Denied(Refusal),
     Asked(Task),
 }
 
 // A symbol's value, or why it has none.
-#[derive(Drop)]
+#[derive(Clone, Copy)]
 pub enum Named {
     Unnamed(Refusal),
     Value(u32),

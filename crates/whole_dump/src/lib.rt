@@ -1,4 +1,6 @@
 // The ground desk's check of a whole dump (paper 02, A6): its definition and the theorems about it. The code is in `dump_check`.
+#![tactic(auto)]
+
 ghost use Rattle.whole_dump.specs.Examples.{CheckExamples};
 ghost use Rattle.whole_dump.specs.FromCalls.{OwnDumpsPass, OwnDumpsPassWithBatches};
 ghost use Rattle.whole_dump.specs.HeadersAlone.{HeadersAlone};

@@ -1,4 +1,6 @@
 // Numbers in bytes, big-endian, and the exclusive or. Every public function but `read16` and `read32` is total: a byte past the end reads as 0, and words that do not all fit are not written.
+#![tactic(auto)]
+
 ghost use Rattle.std.specs.Prelude.{◌≡◌, reverse, ◌+◌, ◌*◌, ◌≤◌, ◌<◌, length, get_or};
 ghost use Rattle.lists.specs.Splice.{splice};
 ghost use Rattle.wire.specs.Bytes.{be, be_at, word_bytes};
