@@ -1,17 +1,14 @@
 -- The definitions of this crate, index by index.
 -- Assumes nothing.
-use mathlib.Core.Path.{◌≡◌, refl, sym, subst}
+use mathlib.Core.Path.{◌≡◌, refl, subst}
 use mathlib.Core.Logic.{◌↔◌}
 use mathlib.Core.Bool.{Bool, true, false}
-use mathlib.Core.List.{List}
-use Prim.Native.Nat.{ℕ, ◌+◌, ◌≤◌, ◌<◌}
+use Prim.Native.Nat.{ℕ, ◌<◌}
 use native.Mathlib.Omega.{arith}
-use lib.ListN.{length}
 use Rattle.lists.specs.Below.{any_below, first_below}
-use Rattle.lists.specs.Splice.{splice}
-use Rattle.lists.specs.ByIndex.{Spliced, ByIndex}
+use Rattle.lists.specs.ByIndex.{ByIndex}
 use Rattle.lists.proofs.Tests.{either}
-use Rattle.lists.proofs.Below.{all_at, all_of, any_at, any_of, none_at, none_of, first_found, first_before, first_is, first_none, sum_more}
+use Rattle.lists.proofs.Below.{all_at, all_of, any_at, any_of, none_of, first_found, first_before, first_is, first_none, sum_more}
 use Rattle.lists.proofs.Splice.{splice_length, splice_in, splice_below, splice_above}
 
 module _ (p : ℕ → Bool) (n : ℕ) where

@@ -1,14 +1,14 @@
 -- A table with one record more.
 -- Assumes nothing.
 use mathlib.Core.Path.{◌≡◌, refl, sym, ap, ap₂, ◌∙◌, subst}
-use mathlib.Core.Logic.{◌↔◌, ◌≢◌}
+use mathlib.Core.Logic.{◌≢◌}
 use mathlib.Core.Bool.{Bool, true, false}
 use mathlib.Core.List.{List, [], ◌++◌}
-use Prim.Native.Nat.{ℕ, zero, suc, ◌+◌, ◌*◌, ◌%◌, ◌≤◌, ◌<◌}
+use Prim.Native.Nat.{ℕ, suc, ◌+◌, ◌*◌, ◌≤◌, ◌<◌}
 use native.Mathlib.Omega.{arith}
 use lib.ListN.{length, get_or, take, drop, length-append, length-drop, get_or-append}
 use lib.Seq.{take-append-le, drop-append-le, drop-append-add, get_or-append-add}
-use Rattle.lists.proofs.Tests.{either, contra, by_lt, by_order}
+use Rattle.lists.proofs.Tests.{either, contra, by_order}
 use Rattle.wire.specs.ByByte.{byte, four}
 use Rattle.symbols.specs.Table.{symbol_table, has_name, value_of, value_at, name_of, IsSymbol, IsTable, Resolves, Named}
 use Rattle.symbols.specs.Table.Resolves.{value, alias}

@@ -1,14 +1,13 @@
 -- Each number of a name's lookup exactly in its case.
 -- Assumes nothing.
-use mathlib.Core.Path.{◌≡◌, refl, ap, ◌∙◌}
+use mathlib.Core.Path.{◌≡◌, refl, ap}
 use mathlib.Core.Bool.{true, false}
 use mathlib.Core.List.{List}
 use Prim.Native.Nat.{ℕ}
 use native.Mathlib.Omega.{arith}
 use Rattle.lists.proofs.Tests.{either, contra}
 use Rattle.symbols.specs.Answers.{found_in, symbol_of, SymbolNumbers}
-use Rattle.symbols.specs.Table.{symbol_table, has_name, value_of, IsTable, Named}
-use Rattle.symbols.specs.declared.Symbol.{Symbol}
+use Rattle.symbols.specs.Table.{symbol_table, has_name, value_of}
 use Rattle.symbols.specs.declared.Symbol.TheVariants.{NoTable, Unknown, Value}
 use Rattle.symbols.proofs.Logic.{table_when, resolves_when}
 

@@ -2,15 +2,15 @@
 -- Assumes nothing.
 use mathlib.Core.Path.{◌≡◌, refl, sym, ap, ◌∙◌}
 use mathlib.Core.List.{List, [], ◌∷◌, ◌++◌}
-use Prim.Native.Nat.{ℕ, zero, suc, ◌+◌, ◌*◌, ◌/◌, ◌%◌, ◌<◌}
+use Prim.Native.Nat.{ℕ, zero, suc, ◌+◌, ◌*◌, ◌<◌}
 use native.Mathlib.Nat.{add-zero}
 use native.Mathlib.Omega.{arith}
 use lib.Bits.{xor_zero_r}
 use lib.ListN.{length, get_or, drop}
 use lib.Seq.{get_or-append-add}
-use Rattle.wire.specs.Bytes.{be, be_at, word_bytes, words_at}
+use Rattle.wire.specs.Bytes.{be, be_at, word_bytes}
 use Rattle.wire.specs.Xor.{xor_all}
-use Rattle.wire.specs.ByByte.{two, four, FourEach, WordsFrom, ByByte}
+use Rattle.wire.specs.ByByte.{two, four, ByByte}
 use Rattle.wire.proofs.Lengths.{word_bytes_length}
 use Rattle.wire.proofs.Words.{words_at_length, words_at_word}
 use Rattle.wire.proofs.Xor.{xor_joined}
