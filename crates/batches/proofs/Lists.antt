@@ -22,8 +22,8 @@ use Rattle.batches.proofs.InPlain.{packet_inside, packet_outside, fits_out, fits
 use Rattle.batches.proofs.Promises.{command_in_order}
 
 -- an item's packet is bytes
-pub packet_bytes_lem : (bytes : List ℕ) (start n : ℕ) → AreBytes bytes → AreBytes (bytes_from bytes start n)
-packet_bytes_lem bytes start n b i =
+pub packet_bytes : (bytes : List ℕ) (start n : ℕ) → AreBytes bytes → AreBytes (bytes_from bytes start n)
+packet_bytes bytes start n b i =
     by_lt (length bytes) (start + n)
     (λ h. rw (packet_outside bytes start n h) (omega arith))
     (λ h.
@@ -56,7 +56,7 @@ with_items s symbols image bytes [] ns replies es b t = t
 with_items s symbols image bytes (x ∷ ss) [] replies es b t = t
 with_items s symbols image bytes (x ∷ ss) (n ∷ ns) replies es b t =
     let c : CommandArgs = record { packet = bytes_from bytes x n; symbols = symbols; image = image; reply = take 32 replies } in
-    with_call s (command c) _ (λ cs l. (packet_bytes_lem bytes x n b, l))
+    with_call s (command c) _ (λ cs l. (packet_bytes bytes x n b, l))
     (with_items (step s (command c)).state symbols (step s (command c)).image bytes ss ns (drop 32 replies) es b t)
 
 with_step : (s : State) (x : Step) (es : List Event) → StepBytes x → Told (returned_by s x) es → Told s (events_of s x ++ es)
@@ -85,7 +85,7 @@ good_along s symbols image bytes [] ns replies b g = g
 good_along s symbols image bytes (x ∷ ss) [] replies b g = g
 good_along s symbols image bytes (x ∷ ss) (n ∷ ns) replies b g =
     let c : CommandArgs = record { packet = bytes_from bytes x n; symbols = symbols; image = image; reply = take 32 replies } in
-    good_along (command_call s c).state symbols (command_call s c).image bytes ss ns (drop 32 replies) b (demand_2.command_good s c (packet_bytes_lem bytes x n b) g)
+    good_along (command_call s c).state symbols (command_call s c).image bytes ss ns (drop 32 replies) b (demand_2.command_good s c (packet_bytes bytes x n b) g)
 
 pub stays_good : StaysGood
 stays_good s a records b g =

@@ -18,7 +18,7 @@ use Rattle.rules.specs.declared.Region.{Region}
 use Rattle.block.specs.Blocks.{rights_word, region_words, context_words, regions_words, pools_words, places_words, block_of, word, region_in, context_in, place_in, regions_in, pools_in, places_in, state_of, regions_bounds, place_bounds, is_block, unused_from, block_over}
 use Rattle.block.specs.Runs.{runs}
 use Rattle.block.proofs.Runs.{runs_take, list_at, front_more, front_runs}
-use Rattle.block.proofs.Writes.{write_left_lem, write_to_end, front_whole}
+use Rattle.block.proofs.Writes.{write_left, write_to_end, front_whole}
 use Rattle.block.proofs.Bounds.{Four, four_out, BlockBounds, block_out}
 use Rattle.block.proofs.Lengths.{context_words_length, regions_words_length}
 
@@ -204,9 +204,9 @@ module _ (b : List ℕ) (g : BlockBounds b) where
         let ps = pools_words (pools_in b 49) ++ (word b 53 ∷ []) in
         let qs = places_words (places_in b 54) in
         let t = word b 74 ∷ word b 75 ∷ word b 76 ∷ word b 77 ∷ word b 78 ∷ word b 79 ∷ [] in
-        write_left_lem (x ++ ps ++ qs) t v from (simp length-append (omega arith))
-        ∙ ap (λ (u : List ℕ). u ++ t) (write_left_lem (x ++ ps) qs v from (simp length-append (omega arith)))
-        ∙ ap (λ (u : List ℕ). u ++ qs ++ t) (write_left_lem x ps v from (omega arith))
+        write_left (x ++ ps ++ qs) t v from (simp length-append (omega arith))
+        ∙ ap (λ (u : List ℕ). u ++ t) (write_left (x ++ ps) qs v from (simp length-append (omega arith)))
+        ∙ ap (λ (u : List ℕ). u ++ qs ++ t) (write_left x ps v from (omega arith))
         ∙ ap (λ (u : List ℕ). u ++ ps ++ qs ++ t) (write_to_end x v from (omega arith) ∙ ap (λ (u : List ℕ). u ++ v) used_in ∙ front_whole b from 49 (omega arith) (omega arith))
         ∙ rest_front
 

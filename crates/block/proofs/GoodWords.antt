@@ -59,5 +59,5 @@ module _ (b : List ℕ) (good : (is_block b && good_state (state_of b)) ≡ true
   pub state_is : good_state (state_of b) ≡ true
   state_is = and_right (is_block b) (good_state (state_of b)) good
 
-  pub block_words_lem : length b ≡ 80
-  block_words_lem = (block_out b block_is).words
+  pub block_words : length b ≡ 80
+  block_words = (block_out b block_is).words

@@ -21,7 +21,7 @@ use Rattle.block.proofs.Forth.{block_forth}
 use Rattle.block.proofs.Lengths.{regions_words_length, block_length}
 use Rattle.block.proofs.Parts.{count_front, regions_front, rights_front}
 use Rattle.block.proofs.Runs.{runs_take, in_rest}
-use Rattle.block.proofs.Writes.{write_left_lem, write_to_end, own_written, front_written}
+use Rattle.block.proofs.Writes.{write_left, write_to_end, own_written, front_written}
 
 -- THE WORDS OF A BLOCK: the number of regions and sixteen regions, and the rest
 
@@ -56,7 +56,7 @@ pub unused_written : (s : State) (n : ℕ) (v : List ℕ) → n ≤ 16 → 1 + 3
 unused_written s n v l e =
     let k = firsts_length s in
     ap (λ (u : List ℕ). splice u (1 + 3 * n) v) (in_two s)
-    ∙ write_left_lem (first_words s) (rest_words s) v (1 + 3 * n) (omega arith)
+    ∙ write_left (first_words s) (rest_words s) v (1 + 3 * n) (omega arith)
     ∙ ap (λ (u : List ℕ). u ++ rest_words s)
     (write_to_end (first_words s) v (1 + 3 * n) (omega arith)
     ∙ ap (λ (u : List ℕ). u ++ v)

@@ -13,9 +13,9 @@ use Rattle.lists.proofs.Splice.{splice_length}
 -- A WRITE IN TWO LISTS, one after the other: in the first, in the second, and of all of the second
 
 module _ (a z v : List ℕ) where
-  pub write_left_lem : (at : ℕ) → at + length v ≤ length a → splice (a ++ z) at v ≡ splice a at v ++ z
+  pub write_left : (at : ℕ) → at + length v ≤ length a → splice (a ++ z) at v ≡ splice a at v ++ z
   unfolding splice
-  write_left_lem at h =
+  write_left at h =
       let i : at ≤ length a = omega arith in
       rw (take-append-le at a z i, drop-append-le (at + length v) a z h, append_assoc, append_assoc)
 
@@ -77,14 +77,14 @@ module _ (f : ℕ) (v : List ℕ) (end : ℕ) (e : f + length v ≡ end) where
     parts_apart : (k : ℕ) (w : List ℕ) → splice (splice (a ++ z) (end + k) w) f v ≡ splice (splice (a ++ z) f v) (end + k) w
     parts_apart k w =
         ap (λ (u : List ℕ). splice u f v) (write_right a z w end k n)
-        ∙ write_left_lem a (splice z k w) v f (omega arith)
-        ∙ sym (ap (λ (u : List ℕ). splice u (end + k) w) (write_left_lem a z v f (omega arith)) ∙ write_right (splice a f v) z w end k written_length)
+        ∙ write_left a (splice z k w) v f (omega arith)
+        ∙ sym (ap (λ (u : List ℕ). splice u (end + k) w) (write_left a z v f (omega arith)) ∙ write_right (splice a f v) z w end k written_length)
 
     part_apart : (k x : ℕ) → splice (set (a ++ z) (end + k) x) f v ≡ set (splice (a ++ z) f v) (end + k) x
     part_apart k x =
         ap (λ (u : List ℕ). splice u f v) (set_right a z end k x n)
-        ∙ write_left_lem a (set z k x) v f (omega arith)
-        ∙ sym (ap (λ (u : List ℕ). set u (end + k) x) (write_left_lem a z v f (omega arith)) ∙ set_right (splice a f v) z end k x written_length)
+        ∙ write_left a (set z k x) v f (omega arith)
+        ∙ sym (ap (λ (u : List ℕ). set u (end + k) x) (write_left a z v f (omega arith)) ∙ set_right (splice a f v) z end k x written_length)
 
   module _ (l : List ℕ) (long : end ≤ length l) (at : ℕ) (past : end ≤ at) where
     front_length : length (take end l) ≡ end

@@ -20,7 +20,7 @@ use Rattle.batches.specs.Batch as batches
 use Rattle.batches.specs.InOrder.{InOrder}
 use Rattle.batches.proofs.InOrder.{in_order_lem, all_refused}
 use Rattle.batches.proofs.Kept.{command_kept}
-use Rattle.batches.proofs.Lists.{packet_bytes_lem}
+use Rattle.batches.proofs.Lists.{packet_bytes}
 use Rattle.block.specs.Blocks.{word, block_of, is_block, state_of}
 use Rattle.block.specs.Calls.{CallLeft}
 use Rattle.block.proofs.GoodFits.{good_fits}
@@ -74,7 +74,7 @@ module _ (block : State → List ℕ) (n : ℕ)
       let f : Follows k = follows h k in
       let l : Left State = left_by batches.on_state a s k in
       let c : CommandArgs = item_args batches.on_state a l k in
-      let p : AreBytes c.packet = packet_bytes_lem a.bytes _ _ bytes in
+      let p : AreBytes c.packet = packet_bytes a.bytes _ _ bytes in
       record {
         is =
             ap (λ (m : Left (List ℕ)). with_item on_block a m k) f.is

@@ -31,11 +31,11 @@ load_of true false = refl
 load_of false true = refl
 load_of false false = refl
 
-dump_of_lem : (l d : Bool) → leb 2 (cond l 1 0 + cond d 2 0) ≡ d
-dump_of_lem true true = refl
-dump_of_lem true false = refl
-dump_of_lem false true = refl
-dump_of_lem false false = refl
+dump_of : (l d : Bool) → leb 2 (cond l 1 0 + cond d 2 0) ≡ d
+dump_of true true = refl
+dump_of true false = refl
+dump_of false true = refl
+dump_of false false = refl
 
 rights_low : (l d : Bool) → leb (cond l 1 0 + cond d 2 0) 3 ≡ true
 rights_low true true = refl
@@ -59,7 +59,7 @@ module _ (t : List ℕ) (rs : List Region) (n : ℕ) (pools : List Range) (unit 
         h.region_size i u l,
         h.region_rights i u l,
         load_of (region_at rs i).load (region_at rs i).dump,
-        dump_of_lem (region_at rs i).load (region_at rs i).dump,
+        dump_of (region_at rs i).load (region_at rs i).dump,
       )
 
   sixteen : length (regions_in t 6) ≡ 16
@@ -95,9 +95,9 @@ start_is t rs n pools unit b h k =
 
 -- NO TABLE
 
-no_table_lem : start_rules (replicate 16 no_region) 0 (replicate 2 no_range) 0 ≡ false
+no_table : start_rules (replicate 16 no_region) 0 (replicate 2 no_range) 0 ≡ false
 unfolding start_rules table_rules
-no_table_lem = refl
+no_table = refl
 
 none_block : block_of no_state ≡ replicate 74 0 ++ 3 ∷ 0 ∷ 0 ∷ 0 ∷ 0 ∷ 0 ∷ []
 unfolding block_of runs
@@ -106,7 +106,7 @@ none_block = refl
 module _ (t b : List ℕ) where
   not_table : length b ≡ 80 → is_table t ≡ false → NotStarted t b
   unfolding lg_start_up table_of start_up
-  not_table k e = rw (eq-eqb (length b) 80 k, e, no_table_lem, none_block)
+  not_table k e = rw (eq-eqb (length b) 80 k, e, no_table, none_block)
 
   wide_unit : length t ≡ 54 → 255 < word t 0 → is_table t ≡ false
   unfolding is_table

@@ -104,7 +104,7 @@ pub record Examples : Type 0 where
   pub slot_unused : slot (set (set running 46 9) 48 4)
       ≡ record { number = 0; bytes = 44; state = set (set (slot running).state 46 9) 48 4; image = image; buffer = (slot running).buffer }
   -- blocks that are no state: of another length, and with a word out of its bounds
-  pub no_state_lem : map slot (drop 1 running ∷ (0 ∷ running) ∷ set running 3 4 ∷ set running 9 4 ∷ set running 54 2 ∷ set running 55 1 ∷ set running 73 1 ∷ [])
+  pub no_state : map slot (drop 1 running ∷ (0 ∷ running) ∷ set running 3 4 ∷ set running 9 4 ∷ set running 54 2 ∷ set running 55 1 ∷ set running 73 1 ∷ [])
       ≡ map (λ b. record { number = 1; bytes = 0; state = b; image = image; buffer = replicate 4092 0xEE })
       (drop 1 running ∷ (0 ∷ running) ∷ set running 3 4 ∷ set running 9 4 ∷ set running 54 2 ∷ set running 55 1 ∷ set running 73 1 ∷ [])
   -- COMMANDS: a dump of the region with load right and a load of the one with dump right, and the other way round

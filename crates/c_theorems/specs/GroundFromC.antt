@@ -67,7 +67,7 @@ pub record GroundFromC : Type 0 where
   pub value_tail : (n : ℕ) → tail_words (SymbolValue n) ≡ n ∷ 0 ∷ []
   pub by_name_tail : (q : SymbolRequest) → tail_words (DumpSymbol q) ≡ q.name ∷ q.offset ∷ []
   pub no_tail : (q : Request) (i : ℕ) → map tail_words (Dump q ∷ Cancel ∷ Load q ∷ PoolStatistics i ∷ []) ≡ replicate 4 (0 ∷ 0 ∷ [])
-  pub packet_words_lem : (f : DumpPacket) → field_words f
+  pub packet_words : (f : DumpPacket) → field_words f
       ≡ f.header.count ∷ f.header.unit ∷ f.header.transaction ∷ f.tick ∷ f.range.start.0 ∷ f.range.words ∷ f.here.0 ∷ f.words ∷ []
   -- THE COMMAND WRITER: the packet of the words that its code uses; a number wider than its field's type; another code; another length
   pub dump : (b : List ℕ) → CommandBlock b → HeadFits b → get_or b 0 0 ≡ 0 → get_or b 4 0 < 65536 → WrittenAs b (Dump (request b))
@@ -75,7 +75,7 @@ pub record GroundFromC : Type 0 where
   pub load : (b : List ℕ) → CommandBlock b → HeadFits b → get_or b 0 0 ≡ 4 → get_or b 4 0 < 65536 → WrittenAs b (Load (request b))
   pub pool : (b : List ℕ) → CommandBlock b → HeadFits b → get_or b 0 0 ≡ 7 → get_or b 6 0 < 65536 → WrittenAs b (PoolStatistics (get_or b 6 0))
   pub value : (b : List ℕ) → CommandBlock b → HeadFits b → get_or b 0 0 ≡ 8 → get_or b 19 0 < 256 → WrittenAs b (SymbolValue (get_or b 19 0))
-  pub by_name_lem : (b : List ℕ) → CommandBlock b → HeadFits b → get_or b 0 0 ≡ 9 → get_or b 4 0 < 65536 → get_or b 19 0 < 256 → WrittenAs b (DumpSymbol (symbol_request b))
+  pub by_name : (b : List ℕ) → CommandBlock b → HeadFits b → get_or b 0 0 ≡ 9 → get_or b 4 0 < 65536 → get_or b 19 0 < 256 → WrittenAs b (DumpSymbol (symbol_request b))
   pub wide_count : (b : List ℕ) → CommandBlock b → 65535 < get_or b 1 0 → Nine b
   pub wide_unit : (b : List ℕ) → CommandBlock b → 255 < get_or b 2 0 → Nine b
   pub wide_transaction : (b : List ℕ) → CommandBlock b → 65535 < get_or b 3 0 → Nine b

@@ -140,8 +140,8 @@ module _ (p : List ℕ) (r : PacketReading) (er : r ≡ (read_packet p).reading)
   pub packet_low : (f : DumpPacket) → r ≡ Packet f → f.words ≤ 1016
   packet_low f ef = (part_is f ef).low
 
-  packet_bytes_lem : (f : DumpPacket) → r ≡ Packet f → 4 * f.words ≡ length (read_packet p).part
-  packet_bytes_lem f ef = (part_is f ef).bytes
+  packet_bytes : (f : DumpPacket) → r ≡ Packet f → 4 * f.words ≡ length (read_packet p).part
+  packet_bytes f ef = (part_is f ef).bytes
 
 -- a packet that is refused has no data part
 conclude_no_part : (p : List ℕ) (v : Verdict) (r : Refusal) → (conclude_packet p v).reading ≡ NoPacket r → 0 ≡ length (conclude_packet p v).part
@@ -169,5 +169,5 @@ module _ (p b : List ℕ) where
     packet_done f ef v ev b' e =
         let eight : length v ≡ 8 = rw ev in
         let all : b' ≡ field_words f = e (omega arith) ∙ splice_all b v (omega arith) ∙ ev in
-        let bytes = packet_bytes_lem p d ed f ef in
+        let bytes = packet_bytes p d ed f ef in
         rw (eq-eqb (length b) 8 n, ← ed, ef) (refl, all, bytes)

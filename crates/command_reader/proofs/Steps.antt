@@ -43,9 +43,9 @@ module _ (p : List ℕ) where
   unfolding read_command reader_rows lowest headed_of
   malformed w = rw w
 
-  other_apid_lem : well_formed p ≡ true → eqb (apid_of p) command_apid ≡ false → read_by p (headed_of p) ≡ (read_command p).reading
+  other_apid : well_formed p ≡ true → eqb (apid_of p) command_apid ≡ false → read_by p (headed_of p) ≡ (read_command p).reading
   unfolding read_command reader_rows lowest headed_of
-  other_apid_lem w a = rw (w, a)
+  other_apid w a = rw (w, a)
 
   headed_right : well_formed p ≡ true → eqb (apid_of p) command_apid ≡ true → headed_of p ≡ Accepted
   unfolding headed_of
@@ -54,7 +54,7 @@ module _ (p : List ℕ) where
   pub reading_is : read_by p (headed_of p) ≡ (read_command p).reading
   reading_is =
       either (well_formed p)
-      (λ w. either (eqb (apid_of p) command_apid) (λ a. ap (read_by p) (headed_right w a) ∙ decoded_same w a (decode p) refl) (λ a. other_apid_lem w a))
+      (λ w. either (eqb (apid_of p) command_apid) (λ a. ap (read_by p) (headed_right w a) ∙ decoded_same w a (decode p) refl) (λ a. other_apid w a))
       (λ w. malformed w)
 
   pub zeros_by_name : (q : SymbolRequest) {a b : Bool} → a ≡ eqb (get_or p 11 0) 0 → b ≡ eqb (be_at 2 p 66) 0 → (a && b) ≡ zero_rules p (DumpSymbol q)

@@ -99,9 +99,9 @@ module _ (b : List ℕ) (i : ℕ) (c : Context) where
   unfolding placed
   other_length n = rw (ne_eqb (length b) 80 n)
 
-  pub no_place_lem : length b ≡ 80 → 4 ≤ i → b ≡ placed b i c
+  pub no_place : length b ≡ 80 → 4 ≤ i → b ≡ placed b i c
   unfolding placed
-  no_place_lem n l = rw (eq-eqb (length b) 80 n, le-ltb i 4 l)
+  no_place n l = rw (eq-eqb (length b) 80 n, le-ltb i 4 l)
 
   -- the five words are put where they are to be
   pub place_written : length b ≡ 80 → i < 4 → {v b' : List ℕ} → v ≡ context_words c

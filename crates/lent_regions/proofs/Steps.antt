@@ -75,9 +75,9 @@ module _ (w : List ℕ) (n : ℕ) (a : Range) where
   abbrev Promised : Found → Type 0
   Promised f = (f ≡ find_in w n a) × (48 ≤ length w → table_rules (regions_in w 0) n ≡ true → FoundWhen (regions_in w 0) n a f)
 
-  pub no_table_lem : length w < 48 → Promised StartsOutside
+  pub no_table : length w < 48 → Promised StartsOutside
   unfolding find_in
-  no_table_lem l = (rw (lt-leb 48 (length w) l), λ k. absurd (omega arith))
+  no_table l = (rw (lt-leb 48 (length w) l), λ k. absurd (omega arith))
 
   pub of_table : 48 ≤ length w → find_in w n a ≡ find_by_halving (regions_in w 0) (min n 16) a
   unfolding find_in

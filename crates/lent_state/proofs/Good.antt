@@ -54,8 +54,8 @@ module _ (b : List ℕ) where
         values = leb-true _ _ (and_right (u && l && p && d && a && r) v h);
       }
 
-  words_in_lem : WordsAre b → word_rules b ≡ true
-  words_in_lem w =
+  words_in : WordsAre b → word_rules b ≡ true
+  words_in w =
       rw (
         le-leb (word b 53) 15 w.unit,
         le-leb (word b 74) 3 w.last,
@@ -144,7 +144,7 @@ module _ (b : List ℕ) where
         table = start.table;
         words =
             and_both bounds.regions
-            (words_in_lem (record {
+            (words_in (record {
               unit = start.low;
               last = g.last;
               replies = g.replies;

@@ -245,9 +245,9 @@ none_block : block_of no_state ≡ set (replicate 80 0) 74 3
 unfolding block_of runs
 none_block = refl
 
-no_table_lem : start_rules (replicate 16 no_region) 0 (replicate 2 no_range) 0 ≡ false
+no_table : start_rules (replicate 16 no_region) 0 (replicate 2 no_range) 0 ≡ false
 unfolding start_rules table_rules
-no_table_lem = refl
+no_table = refl
 
 module _ (t : List ℕ) where
   -- a good table: its number of regions, and the block that it gives
@@ -285,7 +285,7 @@ module _ (t : List ℕ) where
 
     pub other_table : length b ≡ 80 → (z : List ℕ) → z ≡ block_of no_state → length t ≢ 54 → (17 ≡ (lg_start_up t b).number) × (z ≡ (lg_start_up t b).state)
     unfolding lg_start_up table_of start_up is_table
-    other_table k z ez n = rw (eq-eqb (length b) 80 k, ne_eqb (length t) 54 n, no_table_lem) (refl, ez)
+    other_table k z ez n = rw (eq-eqb (length b) 80 k, ne_eqb (length t) 54 n, no_table) (refl, ez)
 
     module _ (n : length t ≡ 54) (k : length b ≡ 80) (g : Bool) (eg : g ≡ good_table t) (z : List ℕ) (ez : z ≡ block_of no_state) where
       pub not_taken : not g ≡ true → (17 ≡ (lg_start_up t b).number) × (z ≡ (lg_start_up t b).state)
@@ -294,7 +294,7 @@ module _ (t : List ℕ) where
           rw (eq-eqb (length b) 80 k)
           (either (is_table t)
           (λ e. rw (e, broken (sym eg ∙ not-true g h) e) (refl, ez))
-          (λ e. rw (e, no_table_lem) (refl, ez)))
+          (λ e. rw (e, no_table) (refl, ez)))
 
       pub taken : not g ≡ false → (f : List ℕ) → f ≡ table_written t z → (0 ≡ (lg_start_up t b).number) × (f ≡ (lg_start_up t b).state)
       unfolding lg_start_up table_of start_up

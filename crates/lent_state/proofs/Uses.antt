@@ -27,20 +27,20 @@ use Rattle.lent_places.proofs.Answers.{block_places}
 
 module _ (b : List ℕ) where
   -- the region that holds a range
-  pub found_in_lem : is_block b ≡ true → good_state (state_of b) ≡ true → (n : ℕ) → n ≡ word b 0 → (a : Range) {f : Found}
+  pub found_in : is_block b ≡ true → good_state (state_of b) ≡ true → (n : ℕ) → n ≡ word b 0 → (a : Range) {f : Found}
       → f ≡ find_in (take 48 (drop 1 b)) n a → f ≡ find_region (state_of b).regions (state_of b).count a
   unfolding state_of
-  found_in_lem block good n en a e =
+  found_in block good n en a e =
       let l = (block_out b block).words in
       let part : 48 ≤ length (take 48 (drop 1 b)) = simp (length-take, length-drop) (omega arith) in
       let start = start_out (state_of b).regions (state_of b).count (state_of b).pools (state_of b).unit (good_out (state_of b) good).rules in
       found_in_order (regions_in b 1) (word b 0) a (rw (regions_part b 1, en) at (e ∙ of_table (take 48 (drop 1 b)) n a part)) start.table
 
   -- where a range that region k holds begins in the image
-  pub index_in_lem : is_block b ≡ true → (k : ℕ) (a : Range) {x : WordIndex}
+  pub index_in : is_block b ≡ true → (k : ℕ) (a : Range) {x : WordIndex}
       → x ≡ word_index_in (take 48 (drop 1 b)) k a → x ≡ word_index (state_of b).regions k a
   unfolding state_of
-  index_in_lem block k a e =
+  index_in block k a e =
       let l = (block_out b block).words in
       let part : 48 ≤ length (take 48 (drop 1 b)) = simp (length-take, length-drop) (omega arith) in
       rw (regions_part b 1) at (e ∙ index_of_table (take 48 (drop 1 b)) k a part)

@@ -76,9 +76,9 @@ module _ (p : List ℕ) (long : 28 ≤ length p) (a : Bool) (ea : a ≡ primary_
     formed : (leb 28 (length p) && primary_rules 0 0 p) ≡ true
     formed = let e : primary_rules 0 0 p ≡ true = rw ea at (not-false a h) in rw (le-leb 28 (length p) long, e)
 
-    pub other_apid_lem : x % 2048 ≢ 788 → Rejected OtherApid ≡ lowest (packet_rows p)
+    pub other_apid : x % 2048 ≢ 788 → Rejected OtherApid ≡ lowest (packet_rows p)
     unfolding packet_rows lowest
-    other_apid_lem n = let e : eqb (apid_of p) 788 ≡ false = rw ex at (ne_eqb (x % 2048) 788 n) in rw (formed, e)
+    other_apid n = let e : eqb (apid_of p) 788 ≡ false = rw ex at (ne_eqb (x % 2048) 788 n) in rw (formed, e)
 
     module _ (k : x % 2048 ≡ 788) (f : DumpPacket) (ef : f ≡ packet_fields p) where
       dumped : eqb (apid_of p) 788 ≡ true
@@ -87,10 +87,10 @@ module _ (p : List ℕ) (long : 28 ≤ length p) (a : Bool) (ea : a ≡ primary_
       abbrev sized : DumpPacket → Bool
       sized g = leb 1 g.words && leb g.words 1016 && eqb (length p) (28 + 4 * g.words)
 
-      pub wrong_length_lem : not (leb 1 f.words && leb f.words 1016 && eqb (length p) (28 + 4 * f.words)) ≡ true
+      pub wrong_length : not (leb 1 f.words && leb f.words 1016 && eqb (length p) (28 + 4 * f.words)) ≡ true
           → Rejected PacketLength ≡ lowest (packet_rows p)
       unfolding packet_rows lowest piece_words
-      wrong_length_lem n =
+      wrong_length n =
           let e : sized (packet_fields p) ≡ false = ap sized (sym ef) ∙ not-true (sized f) n in
           rw (formed, dumped, e)
 

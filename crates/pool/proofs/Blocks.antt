@@ -108,11 +108,11 @@ pass (suc n) [] h = absurd (omega arith)
 pass (suc n) (x ∷ l) h = pass n l (omega arith)
 
 -- a block that runs past the end
-past_end_lem : (n : ℕ) (l : List ℕ) → length l < n → blocks_from n l ≡ damaged
+past_end : (n : ℕ) (l : List ℕ) → length l < n → blocks_from n l ≡ damaged
 unfolding blocks_from
-past_end_lem zero l h = absurd (omega arith)
-past_end_lem (suc n) [] h = refl
-past_end_lem (suc n) (x ∷ l) h = past_end_lem n l (omega arith)
+past_end zero l h = absurd (omega arith)
+past_end (suc n) [] h = refl
+past_end (suc n) (x ∷ l) h = past_end n l (omega arith)
 
 module _ (f : Figures) (l : List ℕ) (at : ℕ) where
   -- nothing is left: the figures are the walk's
@@ -138,7 +138,7 @@ module _ (f : Figures) (l : List ℕ) (at : ℕ) where
       pub joined_out : length l - at < first.size → joined f (blocks_from 0 (drop at l)) ≡ Damaged
       joined_out h =
           let k : length (drop (suc at) l) < first.size - 1 = simp length-drop (omega arith) in
-          rw (opened, past_end_lem (first.size - 1) (drop (suc at) l) k)
+          rw (opened, past_end (first.size - 1) (drop (suc at) l) k)
 
       -- a block that fits
       pub joined_next : first.size ≤ length l - at → joined f (blocks_from 0 (drop at l)) ≡ joined (counted f first) (blocks_from 0 (drop (at + first.size) l))

@@ -39,6 +39,6 @@ module _ (s : State) (c : CommandArgs) (good : good_state s ≡ true) (image : l
         load = λ e. when _ (decode_load c.packet e) (load_out s c) (load_in s c);
         pool = λ e. when _ (decode_pool c.packet e) (pool_out s c) (pool_in s c);
         value = λ e. when _ (decode_value c.packet e) (value_out s c) (value_in s c);
-        by_name_lem = λ e b. when _ (decode_by_name c.packet e) (by_name_out s c b) (by_name_in s c);
+        by_name = λ e b. when _ (decode_by_name c.packet e) (by_name_out s c b) (by_name_in s c);
         other = λ n₀ n₁ n₄ n₇ n₈ n₉ h. contra refl (tests_of s c Unknown (decode_other c.packet n₀ n₁ n₄ n₇ n₈ n₉) h).laid.known;
       }

@@ -39,8 +39,8 @@ module _ (c : CommandArgs) where
       → asked (command c) ≡ asked_by (command_transaction c.packet) (task_of c.symbols (name_in c.packet) d)
   asks d e = ap (asked_by (command_transaction c.packet)) (task_is d e)
 
-  no_place_lem : function_code_of c.packet ≢ 0 → function_code_of c.packet ≢ 1 → function_code_of c.packet ≢ 9 → asked (command c) ≡ nothing
-  no_place_lem a b f =
+  no_place : function_code_of c.packet ≢ 0 → function_code_of c.packet ≢ 1 → function_code_of c.packet ≢ 9 → asked (command c) ≡ nothing
+  no_place a b f =
       let p = c.packet in
       either (eqb (function_code_of p) 4) (λ e. asks _ (decode_load p (eqb-true _ _ e)))
       (λ e₄. either (eqb (function_code_of p) 7) (λ e. asks _ (decode_pool p (eqb-true _ _ e)))
@@ -53,6 +53,6 @@ module _ (c : CommandArgs) where
       record {
         dumps = λ e. asks _ (decode_dump c.packet e);
         cancels = λ e. asks _ (decode_cancel c.packet e);
-        by_name_lem = λ e v a is n r. ap (asked_by (command_transaction c.packet)) (range_reached e v a ((resolves_when _ _ v is).0 n).1 r);
-        other = no_place_lem;
+        by_name = λ e v a is n r. ap (asked_by (command_transaction c.packet)) (range_reached e v a ((resolves_when _ _ v is).0 n).1 r);
+        other = no_place;
       }

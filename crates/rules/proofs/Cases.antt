@@ -71,9 +71,9 @@ all_when a b c u v w =
     (λ h. let y = x.0 h in (y.0.0, y.0.1, y.1), λ h. x.1 ((h.0, h.1), h.2))
 
 -- no command has another code
-unknown_code_lem : (p : List ℕ) → is_unknown (decode p) ≡ not (one_of (function_code_of p) (0 ∷ 1 ∷ 4 ∷ 7 ∷ 8 ∷ 9 ∷ []))
+unknown_code : (p : List ℕ) → is_unknown (decode p) ≡ not (one_of (function_code_of p) (0 ∷ 1 ∷ 4 ∷ 7 ∷ 8 ∷ 9 ∷ []))
 unfolding decode
-unknown_code_lem p =
+unknown_code p =
     let f : ℕ = function_code_of p in
     either (eqb f 0)
     (λ a. rw a)
@@ -189,7 +189,7 @@ module _ (rows : List Row) (p : List ℕ)
       record {
         formed = rw four (rule_passes _ (formed_out p, formed_in p));
         apid = rw five (rule_passes _ (eqb_when _ _));
-        code = rw (six, unknown_code_lem p) (rule_passes _ (λ h. h, λ h. h));
+        code = rw (six, unknown_code p) (rule_passes _ (λ h. h, λ h. h));
         dump = λ e. let d = decode_dump p e in
             rw (seven, nine _ d refl, d) (rule_passes _ (eqb_when _ _), rule_passes _ (and_when _ _ (eqb_when _ _) (leb_when _ _)));
         cancel = λ e. let d = decode_cancel p e in rw (seven, nine _ d refl, d) (rule_passes _ (eqb_when _ _), refl);
@@ -197,7 +197,7 @@ module _ (rows : List Row) (p : List ℕ)
             rw (seven, nine _ d refl, d) (rule_passes _ (eqb_when _ _), rule_passes _ (all_when _ _ _ (eqb_when _ _) (leb_when _ _) (leb_when _ _)));
         pool = λ e. let d = decode_pool p e in rw (seven, nine _ d refl, d) (rule_passes _ (eqb_when _ _), rule_passes _ (leb_when _ _));
         value = λ e. let d = decode_value p e in rw (seven, d) (rule_passes _ (eqb_when _ _));
-        by_name_lem = λ e. let d = decode_by_name p e in rw (seven, d) (rule_passes _ (eqb_when _ _));
+        by_name = λ e. let d = decode_by_name p e in rw (seven, d) (rule_passes _ (eqb_when _ _));
       }
 
 -- THE COMMAND CALL
@@ -306,7 +306,7 @@ module _ (s : State) (c : CommandArgs) where
         load = load_cases;
         pool = pool_cases;
         value = value_cases;
-        by_name_lem = by_name_cases;
+        by_name = by_name_cases;
         no_symbol = symbol_alone;
       }
 

@@ -58,9 +58,9 @@ reply_length_lem count unit transaction pool bs = refl
 -- A REPLY WITH A VALUE
 
 module _ (count unit t v : ℕ) where
-  value_length_lem : length (value_bytes count unit t v) ≡ 12
+  value_length : length (value_bytes count unit t v) ≡ 12
   unfolding value_bytes
-  value_length_lem = refl
+  value_length = refl
 
   value_head : count ≤ 16383 → unit ≤ 15 → t ≤ 4095 → TelemetryHeader 786 count unit t (value_bytes count unit t v)
   unfolding value_bytes
@@ -186,7 +186,7 @@ module _ (s : State) (c : CommandArgs) (h : IsAccepted s c) where
   value_done v x low =
       let t = command_transaction c.packet in
       let b = value_bytes s.values s.unit t v in
-      let e : length b ≡ 12 = value_length_lem s.values s.unit t v in
+      let e : length b ≡ 12 = value_length s.values s.unit t v in
       let head = value_head s.values s.unit t v good.values start.low (omega arith) in
       record {
         v = v;
@@ -215,7 +215,7 @@ module _ (s : State) (c : CommandArgs) (h : IsAccepted s c) where
             let a = value_out s c (tests_of s c _ d h) in
             let v = value_named_lem s c a.1 in
             rw (call_is d, v) (value_done a.0 a.1 (rw v at (value_fits c.symbols (name_in c.packet) b)));
-        by_name_lem = λ e b.
+        by_name = λ e b.
             let d = decode_by_name c.packet e in
             let a = by_name_out s c b (tests_of s c _ d h) in
             rw (call_is d, range_named s c a.symbol a.reached) (by_name_done a);

@@ -139,9 +139,9 @@ module _ (rs : List Region) (n : ℕ) (ps : List Place) where
           after : ltb j i ≡ false → i < j
           after q = let r : i ≤ j = borrow.Author.Tests.ltb-false j i q in omega arith
 
-  pub places_in_lem : PlacesAre rs n ps → places_rules rs n ps ≡ true
+  pub places_in : PlacesAre rs n ps → places_rules rs n ps ≡ true
   unfolding places_rules
-  places_in_lem p =
+  places_in p =
       and_both (eq-eqb (length ps) 4 p.four)
       (all_of (place_rules rs n ps) 4 (λ i l.
       and_both (p.each i l)
@@ -221,5 +221,5 @@ module _ (s : State) where
         le-leb s.packets 16383 g.packets,
         le-leb s.accepted 65535 g.accepted,
         le-leb s.refused 65535 g.refused,
-        places_in_lem s.regions s.count s.places g.places,
+        places_in s.regions s.count s.places g.places,
       )

@@ -39,8 +39,8 @@ module _ (rs : List Region) (n : ℕ) where
   begins_after f zero l = omega arith
   begins_after f (suc i) l = (f i (omega arith)).next l
 
-  region_in_lem : ((i : ℕ) → i < n → GoodRegion rs n i) → (i : ℕ) → i < n → region_rules rs i ≡ true
-  region_in_lem f i l =
+  region_in : ((i : ℕ) → i < n → GoodRegion rs n i) → (i : ℕ) → i < n → region_rules rs i ≡ true
+  region_in f i l =
       let g = f i l in
       and_both
       (and_both (and_both (and_both (eq-eqb _ _ g.aligned) (le-leb _ _ g.some)) (le-leb _ _ g.most)) (le-leb _ _ g.end))
@@ -48,7 +48,7 @@ module _ (rs : List Region) (n : ℕ) where
 
   table_in : 1 ≤ n → n ≤ 16 → ((i : ℕ) → i < n → GoodRegion rs n i) → table_rules rs n ≡ true
   unfolding table_rules
-  table_in some most f = and_both (and_both (le-leb _ _ some) (le-leb _ _ most)) (all_of (region_rules rs) n (region_in_lem f))
+  table_in some most f = and_both (and_both (le-leb _ _ some) (le-leb _ _ most)) (all_of (region_rules rs) n (region_in f))
 
   -- POOLS AND DUMPS IN IT
 

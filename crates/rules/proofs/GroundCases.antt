@@ -51,7 +51,7 @@ module _ (p : List ℕ) where
         layout = layout_cases (reader_rows p) p refl refl refl refl fields_alone;
         value = λ e. let d = decode_value p e in
             rw d (rule_passes _ (all_when _ _ _ (leb_when _ _) (leb_when _ _) (eqb_when _ _)));
-        by_name_lem = λ e. let d = decode_by_name p e in
+        by_name = λ e. let d = decode_by_name p e in
             rw (d, at_two p 64, at_two p 66)
             (rule_passes _ (
               λ h. let x = w.0 h in ((x.0.0, x.0.1, x.1.0), x.1.1, x.0.2),

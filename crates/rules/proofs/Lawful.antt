@@ -209,10 +209,10 @@ module _ (s : State) (c : SlotArgs) where
       let b = leb longest_packet (length c.buffer) in
       (eqb-true _ _ (and_left a b h), leb-true _ _ (and_right a b h))
 
-  counts_in_lem : (length c.image ≡ image_length s.regions s.count) × (longest_packet ≤ length c.buffer)
+  counts_in : (length c.image ≡ image_length s.regions s.count) × (longest_packet ≤ length c.buffer)
       → counts (made s (slot c)) ≡ true
   unfolding counts
-  counts_in_lem h = and_both (eq-eqb _ _ h.0) (le-leb _ _ h.1)
+  counts_in h = and_both (eq-eqb _ _ h.0) (le-leb _ _ h.1)
 
 -- PLACES
 
@@ -319,7 +319,7 @@ module _ (D : Demand2) (s : State) (good : good_state s ≡ true) where
         record {
           law =
               served x.k x.dump x.near x.busy x.passed (one_puts x.now x.others) (ap (λ (z : State). z.last) x.state)
-              (seen_slot s c x.dump h (served_number s c (slot_call s c) x good)) (counts_in_lem s c fit)
+              (seen_slot s c x.dump h (served_number s c (slot_call s c) x good)) (counts_in s c fit)
               (served_shows s c (slot_call s c) x good fit.0);
           regions = ap (λ (z : State). z.regions) x.state;
           count = ap (λ (z : State). z.count) x.state;

@@ -160,7 +160,7 @@ module _ (s : State) (load dump : CommandArgs) (tick : ℕ) (buffer : List ℕ) 
 
   -- the state that the slot is handed is good
   last_good : good_state last ≡ true
-  last_good = command_good middle dump h.dump_bytes_lem (command_good s load h.load_bytes (passed_out s load h.load_done).good)
+  last_good = command_good middle dump h.dump_bytes (command_good s load h.load_bytes (passed_out s load h.load_done).good)
 
   -- the slot did what demand 2 says of a slot
   slot_served : SlotDone last args (sent s load dump tick buffer)
@@ -170,7 +170,7 @@ module _ (s : State) (load dump : CommandArgs) (tick : ℕ) (buffer : List ℕ) 
   served_is_asked : slot_served.dump ≡ new_dump number wanted
   served_is_asked =
       let d = dump_done in
-      let same = sym (number_in_buffer last args last_good slot_served) ∙ h.same_number ∙ sym (plain_bytes.command_fields dump.packet h.dump_bytes_lem).transaction in
+      let same = sym (number_in_buffer last args last_good slot_served) ∙ h.same_number ∙ sym (plain_bytes.command_fields dump.packet h.dump_bytes).transaction in
       served_by_number last args last_good slot_served d.i (new_dump number (range_of dump.packet)) d.rest.in_four d.now same
       ∙ ap (new_dump number) same_range
 

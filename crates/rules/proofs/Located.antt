@@ -17,8 +17,8 @@ use Rattle.rules.proofs.Rules.{start_out}
 use Rattle.rules.proofs.Table.{table_region, image_index_lem}
 
 -- the table of a good state
-pub good_table_lem : (s : State) → good_state s ≡ true → table_rules s.regions s.count ≡ true
-good_table_lem s g = (start_out s.regions s.count s.pools s.unit (good_out s g).rules).table
+pub good_table : (s : State) → good_state s ≡ true → table_rules s.regions s.count ≡ true
+good_table s g = (start_out s.regions s.count s.pools s.unit (good_out s g).rules).table
 
 -- one region more
 words_more : (rs : List Region) (n : ℕ) → words_in (take (suc n) rs) ≡ words_in (take n rs) + (range_at rs n).words

@@ -121,7 +121,7 @@ module _ (s : State) (c : CommandArgs) (good : good_state s ≡ true) (image : l
         load = λ e bytes whole some most.
             let d = decode_load c.packet e in
             missed (range_of c.packet) some (number_by _ d (load_laid s c bytes whole some most) _ (task_is c _ d));
-        by_name_lem = λ v a e symbol zeros reached below whole some.
+        by_name = λ v a e symbol zeros reached below whole some.
             missed (range_from c.packet a) some
             (number_by _ (decode_by_name c.packet e) (by_name_laid s c v a symbol zeros reached below whole some) _
             (range_reached c e v a (value_named_lem s c symbol) reached));

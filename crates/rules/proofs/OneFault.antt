@@ -601,9 +601,9 @@ module _ (p : List ℕ) (b : AreBytes p) where
       let e = at_four p 24 in
       omega arith
 
-  words_in_lem : Given p → words_right p ≡ true
+  words_in : Given p → words_right p ≡ true
   unfolding piece_words
-  words_in_lem g =
+  words_in g =
       let w : ℕ = (packet_fields p).words in
       let e = at_four p 24 in
       let some : 1 ≤ w = (let x = g.some in omega arith) in
@@ -629,7 +629,7 @@ module _ (p : List ℕ) (b : AreBytes p) where
   packet_no_cut : Given p → (CutIs (packet_fields p) → ⊥) → lowest (packet_rows p) ≡ Rejected refusal.BadField
   unfolding packet_rows
   packet_no_cut g n =
-      lowest_past 3 (packet_rows p) (frame_test g.frame, (apid_right g.apid, (ap not (words_in_lem g), tt)))
+      lowest_past 3 (packet_rows p) (frame_test g.frame, (apid_right g.apid, (ap not (words_in g), tt)))
       ∙ row_applies _ _ _ (ap not (fails _ (λ t. n (cut_out (packet_fields p) t))))
 
 -- the reader's number is that of the first row that applies

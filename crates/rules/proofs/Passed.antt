@@ -162,14 +162,14 @@ module _ (s : State) (c : CommandArgs) where
   concluded (Rejected r) h = let l = number_some r in absurd (omega arith)
 
   -- a command whose tests passed is answered 0 when it is carried out
-  carried_out_lem : (d : Decoded) → Tested s c d → answer_number (carry_out s c (task_of c.symbols (name_in c.packet) d)).answer ≡ 0
-  carried_out_lem Unknown t = absurd (contra refl t.laid.known)
-  carried_out_lem (Known (Dump q)) t = refl
-  carried_out_lem (Known Cancel) t = refl
-  carried_out_lem (Known (Load q)) t = refl
-  carried_out_lem (Known (PoolStatistics i)) t = let u = undamaged (blocks_of (pool_words s i c.image)) t.blocks in rw u.1
-  carried_out_lem (Known (SymbolValue n)) t = refl
-  carried_out_lem (Known (DumpSymbol q)) t = refl
+  carried_out : (d : Decoded) → Tested s c d → answer_number (carry_out s c (task_of c.symbols (name_in c.packet) d)).answer ≡ 0
+  carried_out Unknown t = absurd (contra refl t.laid.known)
+  carried_out (Known (Dump q)) t = refl
+  carried_out (Known Cancel) t = refl
+  carried_out (Known (Load q)) t = refl
+  carried_out (Known (PoolStatistics i)) t = let u = undamaged (blocks_of (pool_words s i c.image)) t.blocks in rw u.1
+  carried_out (Known (SymbolValue n)) t = refl
+  carried_out (Known (DumpSymbol q)) t = refl
 
   accepted_lowest : IsAccepted s c → lowest (command_rows s c) ≡ Accepted
   unfolding command_call
@@ -182,7 +182,7 @@ module _ (s : State) (c : CommandArgs) where
 
   concluded_number : (v : Verdict) → lowest (command_rows s c) ≡ v → answer_number (conclude s c v).answer ≡ verdict_number v
   unfolding task
-  concluded_number Accepted e = carried_out_lem (decode c.packet) (rows_out s c (lowest_none _ e)).tests
+  concluded_number Accepted e = carried_out (decode c.packet) (rows_out s c (lowest_none _ e)).tests
   concluded_number (Rejected r) e = refl
 
   -- the number of the first row that applies, and 0 if none does
@@ -198,7 +198,7 @@ module _ (s : State) (c : CommandArgs) where
   passed_out h = rows_out s c (lowest_none _ (accepted_lowest h))
 
   pub passed_in : Passed s c → IsAccepted s c
-  passed_in p = rw (lowest_call (none_lowest _ (rows_in s c p))) (carried_out_lem (decode c.packet) p.tests)
+  passed_in p = rw (lowest_call (none_lowest _ (rows_in s c p))) (carried_out (decode c.packet) p.tests)
 
   -- an accepted command is carried out
   pub accepted_call : IsAccepted s c → command_call s c ≡ carry_out s c (task_of c.symbols (name_in c.packet) (decode c.packet))

@@ -42,7 +42,7 @@ use Rattle.rules.proofs.Fits.{name_length, command_length, packet_length_lem}
 use Rattle.rules.proofs.GoodWhen.{good_when}
 use Rattle.rules.proofs.GroundCases.{length_of}
 use Rattle.rules.proofs.GroundTests.{Writable, writable_out, writable_in, readable_in, readable_out}
-use Rattle.rules.proofs.Located.{good_table_lem, words_sum, lies_from}
+use Rattle.rules.proofs.Located.{good_table, words_sum, lies_from}
 use Rattle.rules.proofs.PacketTests.{packet_out, packet_in_lem}
 use Rattle.rules.proofs.PlainWords.{words_in_image}
 use Rattle.rules.proofs.SlotRead.{Bounds, bounds, packet_length_field}
@@ -93,7 +93,7 @@ command_fields p b =
       load = λ e. decode_load p e ∙ ap (λ (q : Request). Known (Load q)) (request_at_lem p);
       statistics = λ e. decode_pool p e ∙ ap (λ (n : ℕ). Known (PoolStatistics n)) (at_two p 10);
       value = λ e. decode_value p e;
-      by_name_lem = λ e. decode_by_name p e ∙ ap (λ (q : SymbolRequest). Known (DumpSymbol q)) (symbol_request_at p);
+      by_name = λ e. decode_by_name p e ∙ ap (λ (q : SymbolRequest). Known (DumpSymbol q)) (symbol_request_at p);
       other = decode_other p;
       words = words_at_length 11 p 16;
       word = λ k l. words_at_word 11 p 16 k l ∙ at_four p (16 + 4 * k);
@@ -287,7 +287,7 @@ module _ (s : State) (c : SlotArgs) (fits : SlotFits s c) (x : SlotDone s c (slo
       let b = within in
       let r = dump.range in
       let lies = one_out dump_right s.regions s.count r b.dump.region in
-      let at = lies_from s.regions s.count r (good_table_lem s fits.good) b.dump.multiple dump_right lies.0 lies.1 in
+      let at = lies_from s.regions s.count r (good_table s fits.good) b.dump.multiple dump_right lies.0 lies.1 in
       let image : ImageFits s c.image = record { good = fits.good; as_long = fits.image ∙ words_sum s.regions s.count } in
       let here = words_in_image s c.image r lies.0 _ image b.dump.some at in
       let e : length words ≡ min 1016 (r.words - dump.sent) = b.cut in
@@ -350,7 +350,7 @@ asked_of_callers =
       cancel = tt;
       pool = λ i h. h;
       value = λ n h. h;
-      by_name_lem = λ q n o k. (n, o, k);
+      by_name = λ q n o k. (n, o, k);
       slots = λ s c g image buffer tick words. record {
         good = (good_when s).1 g;
         image = image ∙ sym (words_sum s.regions s.count);
@@ -359,7 +359,7 @@ asked_of_callers =
         words = below 4294967296 (omega arith) c.image words;
       };
       no_call = tt;
-      command_call_lem = λ c cs b r. (b, r);
+      command_call = λ c cs b r. (b, r);
       slot_call_lem = λ c cs r. r;
     }
 

@@ -23,7 +23,7 @@ use Rattle.rules.specs.declared.Region.{Region}
 use Rattle.rules.specs.declared.State.{State}
 use Rattle.rules.proofs.Table.{holds_out, one_in, region_holds, holds_unique, words_length}
 use Rattle.rules.proofs.GoodWhen.{good_when}
-use Rattle.rules.proofs.Located.{good_table_lem, words_sum, lies_in, lies_index}
+use Rattle.rules.proofs.Located.{good_table, words_sum, lies_in, lies_index}
 
 busy_when : (t : ℕ) (c : Context) → (busy_with t c ≡ true) ↔ ((d : ActiveDump) × (c ≡ Busy d) × (d.transaction ≡ t))
 busy_when t Idle = (λ h. absurd (contra h refl), λ h. ap (busy_with t) h.1 ∙ eq-eqb _ _ h.2)
@@ -36,7 +36,7 @@ words_in_image s image a i offset fits one lies =
     let rs = s.regions in
     let n = s.count in
     let first = (image_index rs n a).0 in
-    let e = lies_index rs n a (good_table_lem s fits.good) one i offset lies in
+    let e = lies_index rs n a (good_table s fits.good) one i offset lies in
     record {
       count = words_length rs n a image (one_in any_right rs n a i (lies_in rs n a i offset lies)) (fits.as_long ∙ sym (words_sum rs n));
       word = λ k l. get_or-take a.words (drop first image) k 0 l ∙ get_or-drop first image k 0 ∙ ap (λ (x : ℕ). get_or image (x + k) 0) e;
@@ -133,7 +133,7 @@ plain_words =
       region_of_lem = found_there;
       region_none = found_nowhere;
       pool_lies = λ s pool g. pool_there s g pool;
-      no_pool_lem = λ s pool g l. (pool_good s g pool l).none;
+      no_pool = λ s pool g l. (pool_good s g pool l).none;
       dump_lies = λ s i d g. dump_there s g i d;
       words = words_in_image;
       pool_words_lem = λ s image pool i offset. words_in_image s image _ i offset;

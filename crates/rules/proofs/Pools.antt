@@ -141,7 +141,7 @@ pub record FiguresFit (bs : List Block) : Type 0 where
   pub free_words : words is_free bs < 4294967296
   pub free_blocks_lem : blocks is_free bs < 4294967296
   pub usable_free : usable is_free bs < 4294967296
-  pub used_words_lem : words is_used bs < 4294967296
+  pub used_words : words is_used bs < 4294967296
   pub used_blocks_lem : blocks is_used bs < 4294967296
 
 pub figures_fit : {ws : List ℕ} {bs : List Block} → Tiles ws bs → length ws < 4294967296 → FiguresFit bs
@@ -153,7 +153,7 @@ figures_fit t l =
       free_words = omega arith;
       free_blocks_lem = omega arith;
       usable_free = omega arith;
-      used_words_lem = omega arith;
+      used_words = omega arith;
       used_blocks_lem = omega arith;
     }
 
@@ -169,7 +169,7 @@ reply_figures count unit t pool bs buffer f =
         in_four p 16 _ (be_back 4 (blocks is_free bs) f.free_blocks_lem),
         in_four p 20 _ (be_back 4 (usable is_free bs) f.usable_free),
       ),
-      (in_four p 24 _ (be_back 4 (words is_used bs) f.used_words_lem), in_four p 28 _ (be_back 4 (blocks is_used bs) f.used_blocks_lem)),
+      (in_four p 24 _ (be_back 4 (words is_used bs) f.used_words), in_four p 28 _ (be_back 4 (blocks is_used bs) f.used_blocks_lem)),
     )
 
 -- THE FIGURES IN LOGIC
@@ -251,7 +251,7 @@ figures_are pool bs t =
     record {
       free_words = picked_words is_free bs;
       free_blocks_lem = picked_blocks is_free bs;
-      used_words_lem = picked_words is_used bs;
+      used_words = picked_words is_used bs;
       used_blocks_lem = picked_blocks is_used bs;
       all_blocks = all_counted bs;
       reached = reached;

@@ -114,8 +114,8 @@ module _ (f : DumpPacket) (k : CutIs f) where
 -- ITS IMAGE
 
 -- data among zeros
-first_words_lem : (ws : List ℕ) (n m : ℕ) → length ws ≡ min n m → take n (ws ++ replicate (m - length ws) 0) ≡ ws
-first_words_lem ws n m e =
+first_words : (ws : List ℕ) (n m : ℕ) → length ws ≡ min n m → take n (ws ++ replicate (m - length ws) 0) ≡ ws
+first_words ws n m e =
     by_lt m n
     (λ l. let z : m - length ws ≡ 0 = omega arith in rw (z, append-nil) (take_all n ws (omega arith)))
     (λ l. take_at ws (replicate (m - length ws) 0) n (omega arith))
@@ -140,7 +140,7 @@ module _ (f : DumpPacket) (k : CutIs f) (ws : List ℕ) (e : length ws ≡ f.wor
       let l = image_length_lem in
       let rest = ws ++ replicate (f.range.words - sent_before f - length ws) 0 in
       rw (image_start, take_all f.range.words (image_of f ws) (omega arith), drop_at (replicate (sent_before f) 0) rest (sent_before f) (length-replicate _ _))
-      (first_words_lem ws (piece_words f.range) (f.range.words - sent_before f) (e ∙ k.piece))
+      (first_words ws (piece_words f.range) (f.range.words - sent_before f) (e ∙ k.piece))
 
 -- words of 32 bits
 zero_words : (n : ℕ) → AreWords (replicate n 0)

@@ -46,13 +46,13 @@ module _ (p : List ℕ) where
       → (function_code_of p ≡ 4 → P (Load (request_of p))) → (function_code_of p ≡ 7 → P (PoolStatistics (pool_of p)))
       → (function_code_of p ≡ 8 → P (SymbolValue (name_size_of p))) → (function_code_of p ≡ 9 → P (DumpSymbol (symbol_request_of p)))
       → (k : Command) → decode p ≡ Known k → P k
-  by_code P dump cancel load pool value by_name_lem k e =
+  by_code P dump cancel load pool value by_name k e =
       is 0 (λ c. subst P (known_same _ k (decode_dump p c) e) (dump c)) (λ n₀.
       is 1 (λ c. subst P (known_same _ k (decode_cancel p c) e) (cancel c)) (λ n₁.
       is 4 (λ c. subst P (known_same _ k (decode_load p c) e) (load c)) (λ n₄.
       is 7 (λ c. subst P (known_same _ k (decode_pool p c) e) (pool c)) (λ n₇.
       is 8 (λ c. subst P (known_same _ k (decode_value p c) e) (value c)) (λ n₈.
-      is 9 (λ c. subst P (known_same _ k (decode_by_name p c) e) (by_name_lem c)) (λ n₉.
+      is 9 (λ c. subst P (known_same _ k (decode_by_name p c) e) (by_name c)) (λ n₉.
       let d = decode_other p n₀ n₁ n₄ n₇ n₈ n₉ in
       let z : ◌≡◌ {A = ℕ} 0 1 = cc in absurd (omega arith)))))))
     where

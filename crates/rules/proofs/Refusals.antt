@@ -127,11 +127,11 @@ module _ (s : State) (c : CommandArgs) (passed : lowest (command_rows s c) ≡ A
       let l = reply_room in
       splice_length c.reply 0 (value_bytes s.values s.unit (command_transaction c.packet) v) (omega arith)
 
-  carried_out_lem : (d : Decoded) → Tested s c d → CarriedOut s c (carry_out s c (task_of c.symbols (name_in c.packet) d))
-  carried_out_lem Unknown t = absurd (contra refl t.laid.known)
-  carried_out_lem (Known (Dump q)) t = record { done = refl; accepted = refl; refused = refl; image = refl; buffer = refl }
-  carried_out_lem (Known Cancel) t = record { done = refl; accepted = refl; refused = refl; image = refl; buffer = refl }
-  carried_out_lem (Known (Load q)) t =
+  carried_out : (d : Decoded) → Tested s c d → CarriedOut s c (carry_out s c (task_of c.symbols (name_in c.packet) d))
+  carried_out Unknown t = absurd (contra refl t.laid.known)
+  carried_out (Known (Dump q)) t = record { done = refl; accepted = refl; refused = refl; image = refl; buffer = refl }
+  carried_out (Known Cancel) t = record { done = refl; accepted = refl; refused = refl; image = refl; buffer = refl }
+  carried_out (Known (Load q)) t =
       record {
         done = refl;
         accepted = refl;
@@ -139,23 +139,23 @@ module _ (s : State) (c : CommandArgs) (passed : lowest (command_rows s c) ≡ A
         image = load_keeps_length s.regions s.count q c.packet c.image (whole_passed _ _ _ t.inside t.whole) image_length_lem;
         buffer = refl;
       }
-  carried_out_lem (Known (PoolStatistics i)) t = replied_out i (blocks_of (pool_words s i c.image)) t.blocks
-  carried_out_lem (Known (SymbolValue n)) t =
+  carried_out (Known (PoolStatistics i)) t = replied_out i (blocks_of (pool_words s i c.image)) t.blocks
+  carried_out (Known (SymbolValue n)) t =
       record { done = refl; accepted = refl; refused = refl; image = refl; buffer = told_length (value_of c.symbols (name_in c.packet)) }
-  carried_out_lem (Known (DumpSymbol q)) t = record { done = refl; accepted = refl; refused = refl; image = refl; buffer = refl }
+  carried_out (Known (DumpSymbol q)) t = record { done = refl; accepted = refl; refused = refl; image = refl; buffer = refl }
 
 -- A COMMAND THAT NAMES NO SYMBOL
 
 -- its second 9 never applies, and its task is the same whatever symbol table is lent
 module _ (symbols name : List ℕ) where
-  no_range_lem : (d : Decoded) → names_symbol d ≡ false → wrong_range symbols name d ≡ false
-  no_range_lem Unknown n = refl
-  no_range_lem (Known (Dump q)) n = refl
-  no_range_lem (Known Cancel) n = refl
-  no_range_lem (Known (Load q)) n = refl
-  no_range_lem (Known (PoolStatistics i)) n = refl
-  no_range_lem (Known (SymbolValue i)) n = refl
-  no_range_lem (Known (DumpSymbol q)) n = absurd (contra refl n)
+  no_range : (d : Decoded) → names_symbol d ≡ false → wrong_range symbols name d ≡ false
+  no_range Unknown n = refl
+  no_range (Known (Dump q)) n = refl
+  no_range (Known Cancel) n = refl
+  no_range (Known (Load q)) n = refl
+  no_range (Known (PoolStatistics i)) n = refl
+  no_range (Known (SymbolValue i)) n = refl
+  no_range (Known (DumpSymbol q)) n = absurd (contra refl n)
 
   same_task : (others : List ℕ) (d : Decoded) → names_symbol d ≡ false → task_of others name d ≡ task_of symbols name d
   same_task others Unknown n = refl
@@ -196,7 +196,7 @@ module _ (s : State) (c : CommandArgs) (none : names_symbol (decode c.packet) �
   unfolding command_rows lent_rows
   command_lowest =
       let rows : List Row = command_rows s c in
-      lowest_without 11 rows (no_range_lem c.symbols (name_in c.packet) (decode c.packet) none)
+      lowest_without 11 rows (no_range c.symbols (name_in c.packet) (decode c.packet) none)
       (lowest_without 10 (without 11 rows) (rw none)
       (lowest_without 8 (without 10 (without 11 rows)) (rw none) (lowest_number after_ten ten_apart (without 8 (without 10 (without 11 rows))) refl _ refl)))
 
@@ -208,7 +208,7 @@ module _ (s : State) (c : CommandArgs) (none : names_symbol (decode c.packet) �
   unfolding command_rows lent_rows
   other_rows others =
       let r : (symbols : List ℕ) → wrong_range symbols (name_in c.packet) (decode c.packet) ≡ false =
-      λ symbols. no_range_lem symbols (name_in c.packet) (decode c.packet) none in
+      λ symbols. no_range symbols (name_in c.packet) (decode c.packet) none in
       rw (none, r c.symbols, r others, other_task others)
 
   other_outcome : (others : List ℕ) (v : Verdict) → conclude s (lent_other c others) v ≡ conclude s c v
@@ -259,7 +259,7 @@ module _ (s : State) (c : CommandArgs) where
   command_concluded : (v : Verdict) → lowest (command_rows s c) ≡ v → command_call s c ≡ conclude s c v → CommandRefusals s c (conclude s c v)
   unfolding task
   command_concluded Accepted e call =
-      command_accepted e (carry_out s c (task c)) call (carried_out_lem s c e (decode c.packet) (tests_passed s c e))
+      command_accepted e (carry_out s c (task c)) call (carried_out s c e (decode c.packet) (tests_passed s c e))
   command_concluded (Rejected r) e call = command_refused r e call
 
   command_refusals : CommandRefusals s c (command_call s c)
@@ -427,7 +427,7 @@ ground_refusals h k ws buffer p =
       reader_cases = reader_cases p;
       reader = reader_lowest p;
       reader_empty = reader_keeps p (lowest (reader_rows p)) refl;
-      packet_numbers_lem = refl;
+      packet_numbers = refl;
       packet_cases = packet_cases p;
       packet = packet_lowest p;
       packet_empty = packet_keeps p (lowest (packet_rows p));

@@ -45,7 +45,7 @@ figures_of bs =
       free_words = words is_free bs;
       free_blocks_lem = blocks is_free bs;
       largest = largest is_free bs;
-      used_words_lem = words is_used bs;
+      used_words = words is_used bs;
       used_blocks_lem = blocks is_used bs;
     }
 
@@ -56,7 +56,7 @@ with_free n f =
       free_words = f.free_words + n;
       free_blocks_lem = f.free_blocks_lem + 1;
       largest = max f.largest n;
-      used_words_lem = f.used_words_lem;
+      used_words = f.used_words;
       used_blocks_lem = f.used_blocks_lem;
     }
 
@@ -67,7 +67,7 @@ with_used n f =
       free_words = f.free_words;
       free_blocks_lem = f.free_blocks_lem;
       largest = f.largest;
-      used_words_lem = f.used_words_lem + n;
+      used_words = f.used_words + n;
       used_blocks_lem = f.used_blocks_lem + 1;
     }
 
@@ -79,7 +79,7 @@ free_more b bs e =
     let m : max (largest is_free bs) b.size ≡ largest is_free (b ∷ bs) = rw e (omega arith) in
     let v : words is_used bs ≡ words is_used (b ∷ bs) = rw e (omega arith) in
     let k : blocks is_used bs ≡ blocks is_used (b ∷ bs) = rw e (omega arith) in
-    λ i. record { free_words = w i; free_blocks_lem = n i; largest = m i; used_words_lem = v i; used_blocks_lem = k i }
+    λ i. record { free_words = w i; free_blocks_lem = n i; largest = m i; used_words = v i; used_blocks_lem = k i }
 
 -- a used block before others adds its own
 used_more : (b : Block) (bs : List Block) → b.used ≡ true → with_used b.size (figures_of bs) ≡ figures_of (b ∷ bs)
@@ -89,7 +89,7 @@ used_more b bs e =
     let m : largest is_free bs ≡ largest is_free (b ∷ bs) = rw e (omega arith) in
     let v : words is_used bs + b.size ≡ words is_used (b ∷ bs) = rw e (omega arith) in
     let k : blocks is_used bs + 1 ≡ blocks is_used (b ∷ bs) = rw e (omega arith) in
-    λ i. record { free_words = w i; free_blocks_lem = n i; largest = m i; used_words_lem = v i; used_blocks_lem = k i }
+    λ i. record { free_words = w i; free_blocks_lem = n i; largest = m i; used_words = v i; used_blocks_lem = k i }
 
 -- the words of blocks have the figures of those blocks
 tiles_counted : {ws : List ℕ} {bs : List Block} → ((x : ℕ) → get_or ws x 0 < 4294967296) → Tiles ws bs → Counted ws (figures_of bs)
@@ -162,7 +162,7 @@ module _ (s : State) (c : CommandArgs) (low : (x : ℕ) → get_or c.image x 0 <
         free_words = done.free.0;
         free_blocks_lem = done.free.1;
         usable = done.free.2;
-        used_words_lem = done.used.0;
+        used_words = done.used.0;
         used_blocks_lem = done.used.1;
       }
 
@@ -243,8 +243,8 @@ module _ (s : State) (c : CommandArgs) (bytes : AreBytes c.symbols) (code : byte
   same_size = sym record_name_length ∙ ap length value_done.symbol.named.own ∙ packet_name_length
 
   -- and the same
-  same_bytes_lem : (k : ℕ) → k < byte c.packet 10 → byte c.symbols (56 * record_named + 4 + k) ≡ byte c.packet (12 + k)
-  same_bytes_lem k l =
+  same_bytes : (k : ℕ) → k < byte c.packet 10 → byte c.symbols (56 * record_named + 4 + k) ≡ byte c.packet (12 + k)
+  same_bytes k l =
       sym (part_byte (56 * record_named + 4) (byte c.symbols (56 * record_named + 1)) c.symbols k (rw same_size l))
       ∙ ap (λ (p : List ℕ). byte p k) value_done.symbol.named.own
       ∙ part_byte 12 (byte c.packet 10) c.packet k l
@@ -257,7 +257,7 @@ module _ (s : State) (c : CommandArgs) (bytes : AreBytes c.symbols) (code : byte
         i = record_named;
         inside = named.inside;
         size = same_size;
-        name = same_bytes_lem;
+        name = same_bytes;
         j = leads.0;
         leads = leads.1;
         value = λ k l. value_written k l ∙ ap (λ (n : ℕ). byte (be 4 n) k) leads.2 ∙ four_bytes c.symbols (56 * leads.0 + 52) k bytes l;

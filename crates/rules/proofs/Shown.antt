@@ -22,7 +22,7 @@ use Rattle.rules.specs.declared.ActiveDump.{ActiveDump}
 use Rattle.rules.specs.declared.State.{State}
 use Rattle.rules.proofs.Table.{one_out, one_any, range_low, words_length}
 use Rattle.rules.proofs.Good.{DumpIs, dump_out, GoodIs, good_out}
-use Rattle.rules.proofs.Located.{good_table_lem}
+use Rattle.rules.proofs.Located.{good_table}
 
 -- THE BYTES
 
@@ -45,9 +45,9 @@ module _ (s : State) (tick : ℕ) (d : ActiveDump) (ws : List ℕ) where
   unfolding packet_bytes
   packet_address h = be_back 4 (start_of d.range + 4 * d.sent) h
 
-  pub packet_count_lem : length ws < 4294967296 → (packet_fields (packet_bytes s tick d ws)).words ≡ length ws
+  pub packet_count : length ws < 4294967296 → (packet_fields (packet_bytes s tick d ws)).words ≡ length ws
   unfolding packet_bytes
-  packet_count_lem h = be_back 4 (length ws) h
+  packet_count h = be_back 4 (length ws) h
 
 -- A SLOT THAT SERVES
 
@@ -85,7 +85,7 @@ module _ (s : State) (c : SlotArgs) (o : Outcome) (x : SlotDone s c o) (good : g
       let is : DumpIs s.regions s.count d = served_dump in
       let one = one_any dump_right s.regions s.count r is.region in
       let lies = one_out any_right s.regions s.count r one in
-      let low : end_of r ≤ 4294967296 = range_low s.regions s.count (good_table_lem s good) r lies.0 lies.1 in
+      let low : end_of r ≤ 4294967296 = range_low s.regions s.count (good_table s good) r lies.0 lies.1 in
       let whole : length (words_of s.regions s.count r c.image) ≡ r.words = words_length s.regions s.count r c.image one fit in
       let next = next_piece s c.image d is.cut in
       let short : length (next_words s c.image d) < 4294967296 = rw next (simp (length-take, length-drop) (omega arith)) in
@@ -97,5 +97,5 @@ module _ (s : State) (c : SlotArgs) (o : Outcome) (x : SlotDone s c o) (good : g
         request = ap (λ (p : List ℕ). (packet_fields p).range) x.packet ∙ packet_range s c.tick d ws (omega arith) (omega arith);
         address = ap (λ (p : List ℕ). (packet_fields p).here.0) x.packet ∙ packet_address s c.tick d ws (omega arith)
             ∙ ap (λ (n : ℕ). start_of r + 4 * n) (sym sent);
-        count = ap (λ (p : List ℕ). (packet_fields p).words) x.packet ∙ packet_count_lem s c.tick d ws short ∙ ap length next;
+        count = ap (λ (p : List ℕ). (packet_fields p).words) x.packet ∙ packet_count s c.tick d ws short ∙ ap length next;
       }

@@ -24,10 +24,10 @@ use Rattle.rules.specs.declared.State.{State}
 use Rattle.rules.proofs.Fits.{packet_length_lem, next_most}
 use Rattle.rules.proofs.Good.{DumpIs, GoodIs, good_out}
 use Rattle.rules.proofs.AfterPacket.{piece_some}
-use Rattle.rules.proofs.Located.{good_table_lem}
+use Rattle.rules.proofs.Located.{good_table}
 use Rattle.rules.proofs.PacketTests.{sent_before, CutIs, PacketIs, packet_in_lem}
 use Rattle.rules.proofs.Rules.{start_out}
-use Rattle.rules.proofs.Shown.{packet_number_lem, packet_data, packet_range, packet_address, packet_count_lem, served_dump, served_number}
+use Rattle.rules.proofs.Shown.{packet_number_lem, packet_data, packet_range, packet_address, packet_count, served_dump, served_number}
 use Rattle.rules.proofs.Slot.{slot}
 use Rattle.rules.proofs.Table.{one_out, one_any, range_low, words_length}
 
@@ -81,7 +81,7 @@ module _ (s : State) (c : SlotArgs) (x : SlotDone s c (slot_call s c)) where
       let number = packet_number_lem s c.tick d words [] b.dump.number in
       let range = packet_range s c.tick d words (omega arith) (omega arith) in
       let here = packet_address s c.tick d words (omega arith) in
-      let size = packet_count_lem s c.tick d words (omega arith) in
+      let size = packet_count s c.tick d words (omega arith) in
       λ i.
       record {
         header = record { count = count i; unit = unit i; transaction = number i };
@@ -145,7 +145,7 @@ module _ (s : State) (c : SlotArgs) (x : SlotDone s c (slot_call s c)) where
         dump = is;
         packets = g.packets;
         unit = (start_out s.regions s.count s.pools s.unit g.rules).low;
-        low = range_low s.regions s.count (good_table_lem s good) r lies.0 lies.1;
+        low = range_low s.regions s.count (good_table s good) r lies.0 lies.1;
         cut = rw (length-take, length-drop, words_length s.regions s.count r c.image one image);
         longest = next_most s c.image x.dump;
       }

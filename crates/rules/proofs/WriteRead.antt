@@ -129,19 +129,19 @@ module _ (h : Header) (k : Command) (ws buffer : List ℕ) (w : Writable h k buf
   command_fields fit = rw (command_read fit, command_header)
 
 -- of the words beside a command, what it uses
-command_words_lem : (h : Header) (k : Command) (ws : List ℕ) → field_rules k ≡ true → AreWords ws → UsedSame k (words_beside (command_bytes h k ws) k) ws
-command_words_lem h (Dump q) ws f fit = tt
-command_words_lem h Cancel ws f fit = tt
-command_words_lem h (Load q) ws f fit = λ i l.
+command_words : (h : Header) (k : Command) (ws : List ℕ) → field_rules k ≡ true → AreWords ws → UsedSame k (words_beside (command_bytes h k ws) k) ws
+command_words h (Dump q) ws f fit = tt
+command_words h Cancel ws f fit = tt
+command_words h (Load q) ws f fit = λ i l.
     (let most = load_most q f in
     padded_at 1 (data_words (command_bytes h (Load q) ws)) i
     ∙ ap (λ (v : List ℕ). get_or v i 0) (load_words h q ws fit)
     ∙ used_word q.size ws i l (omega arith))
-command_words_lem h (PoolStatistics n) ws f fit = tt
-command_words_lem h (SymbolValue n) ws f fit = λ j l.
+command_words h (PoolStatistics n) ws f fit = tt
+command_words h (SymbolValue n) ws f fit = λ j l.
     (let most = (fields_out (SymbolValue n) f).1 in
     ap (λ (v : List ℕ). get_or v j 0) (value_words h n ws) ∙ filled_used 48 n (word_bytes ws) j l (omega arith))
-command_words_lem h (DumpSymbol q) ws f fit = λ j l.
+command_words h (DumpSymbol q) ws f fit = λ j l.
     (let most = (fields_out (DumpSymbol q) f).1 in
     ap (λ (v : List ℕ). get_or v j 0) (by_name_words h q ws) ∙ filled_used 48 q.name (word_bytes ws) j l (omega arith))
 
@@ -159,5 +159,5 @@ write_read h k ws buffer fit words e =
     subst⁻¹ (WriteRead h k ws) (packet_written h k ws buffer w)
     (record {
       fields = command_fields h k ws buffer w fit;
-      words = rw (command_read h k ws buffer w fit) (command_words_lem h k ws w.fields words);
+      words = rw (command_read h k ws buffer w fit) (command_words h k ws w.fields words);
     })

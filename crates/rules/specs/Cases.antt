@@ -98,7 +98,7 @@ pub record LayoutCases (rows : List Row) (p : List ℕ) : Type 0 where
       → Passes rows 7 (length p ≡ 60) × Passes rows 9 ((start_of (range_of p) % 4 ≡ 0) × (1 ≤ (range_of p).words) × ((range_of p).words ≤ 11))
   pub pool : function_code_of p ≡ 7 → Passes rows 7 (length p ≡ 12) × Passes rows 9 (pool_of p ≤ 1)
   pub value : function_code_of p ≡ 8 → Passes rows 7 (length p ≡ 60)
-  pub by_name_lem : function_code_of p ≡ 9 → Passes rows 7 (length p ≡ 68)
+  pub by_name : function_code_of p ≡ 9 → Passes rows 7 (length p ≡ 68)
 
 -- what number 9 asks of the name's size and the pad
 abbrev pub NameAllowed : List ℕ → Type 0
@@ -109,7 +109,7 @@ NameAllowed p = (1 ≤ byte p 10) × (byte p 10 ≤ 48) × (byte p 11 ≡ 0)
 pub record ReaderCases (rows : List Row) (p : List ℕ) : Type 0 where
   pub layout : LayoutCases rows p
   pub value : function_code_of p ≡ 8 → Passes rows 9 (NameAllowed p)
-  pub by_name_lem : function_code_of p ≡ 9 → Passes rows 9 (NameAllowed p × (two p 66 ≡ 0) × (1 ≤ two p 64))
+  pub by_name : function_code_of p ≡ 9 → Passes rows 9 (NameAllowed p × (two p 66 ≡ 0) × (1 ≤ two p 64))
 
 -- THE COMMAND CALL: beside those, number 8, and by function code 10 to 15, 17, 18, 19, and 9 of a command that names a symbol
 
@@ -189,7 +189,7 @@ pub record CommandCases (rows : List Row) (s : State) (c : CommandArgs) : Type 0
   pub load : function_code_of c.packet ≡ 4 → LoadCases rows s c.packet
   pub pool : function_code_of c.packet ≡ 7 → PoolCases rows s c.packet c.image
   pub value : function_code_of c.packet ≡ 8 → ValueCases rows c
-  pub by_name_lem : function_code_of c.packet ≡ 9 → ByNameCases rows s c
+  pub by_name : function_code_of c.packet ≡ 9 → ByNameCases rows s c
   -- 17 and 18 are for a command that names a symbol alone
   pub no_symbol : function_code_of c.packet ≢ 8 → function_code_of c.packet ≢ 9 → Never rows 17 × Never rows 18
 

@@ -150,7 +150,7 @@ pub record GroundRefusals (h : Header) (k : Command) (ws buffer p : List ℕ) : 
   pub reader_cases : ReaderCases (reader_rows p) p
   pub reader : Lowest (reader_rows p) (reading_number (read_command p).reading)
   pub reader_empty : reading_number (read_command p).reading ≢ 0 → (read_command p).words ≡ replicate 12 0
-  pub packet_numbers_lem : numbers_of (packet_rows p) ≡ 4 ∷ 5 ∷ 7 ∷ 9 ∷ []
+  pub packet_numbers : numbers_of (packet_rows p) ≡ 4 ∷ 5 ∷ 7 ∷ 9 ∷ []
   pub packet_cases : PacketCases (packet_rows p) p
   pub packet : Lowest (packet_rows p) (packet_number (read_packet p).reading)
   pub packet_empty : packet_number (read_packet p).reading ≢ 0 → (read_packet p).part ≡ []

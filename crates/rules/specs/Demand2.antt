@@ -91,7 +91,7 @@ pub record AcceptedWhen (s : State) (c : CommandArgs) : Type 0 where
   pub load : function_code_of c.packet ≡ 4 → IsAccepted s c ↔ (ForThisBox s c.packet × LoadAllowed s c.packet)
   pub pool : function_code_of c.packet ≡ 7 → IsAccepted s c ↔ (ForThisBox s c.packet × PoolAllowed s c)
   pub value : function_code_of c.packet ≡ 8 → IsAccepted s c ↔ (ForThisBox s c.packet × ValueAllowed c)
-  pub by_name_lem : function_code_of c.packet ≡ 9 → AreBytes c.packet → IsAccepted s c ↔ (ForThisBox s c.packet × ByNameAllowed s c)
+  pub by_name : function_code_of c.packet ≡ 9 → AreBytes c.packet → IsAccepted s c ↔ (ForThisBox s c.packet × ByNameAllowed s c)
   pub other : function_code_of c.packet ≢ 0 → function_code_of c.packet ≢ 1 → function_code_of c.packet ≢ 4
       → function_code_of c.packet ≢ 7 → function_code_of c.packet ≢ 8 → function_code_of c.packet ≢ 9 → IsAccepted s c → ⊥
 
@@ -110,7 +110,7 @@ pub record Misses (s : State) (c : CommandArgs) : Type 0 where
       → MissedWhen s c (range_of c.packet)
   pub load : function_code_of c.packet ≡ 4 → length c.packet ≡ 60 → start_of (range_of c.packet) % 4 ≡ 0 → 1 ≤ (range_of c.packet).words
       → (range_of c.packet).words ≤ 11 → MissedWhen s c (range_of c.packet)
-  pub by_name_lem : (v a : ℕ) → function_code_of c.packet ≡ 9 → SymbolNamed c 68 v → two c.packet 66 ≡ 0 → Reached v (four c.packet 60) a
+  pub by_name : (v a : ℕ) → function_code_of c.packet ≡ 9 → SymbolNamed c 68 v → two c.packet 66 ≡ 0 → Reached v (four c.packet 60) a
       → a < 4294967296 → a % 4 ≡ 0 → 1 ≤ two c.packet 64 → MissedWhen s c (range_from c.packet a)
   -- pool statistics: 10 exactly if there is no such pool, and never 19
   pub pool : function_code_of c.packet ≡ 7 → length c.packet ≡ 12 → pool_of c.packet ≤ 1
@@ -203,7 +203,7 @@ without_first b = record { used = b.used; size = b.size - 1 }
 pub record FiguresAre (bs : List Block) : Type 0 where
   pub free_words : words is_free bs ≡ size_sum (free_blocks bs)
   pub free_blocks_lem : blocks is_free bs ≡ length (free_blocks bs)
-  pub used_words_lem : words is_used bs ≡ size_sum (used_blocks bs)
+  pub used_words : words is_used bs ≡ size_sum (used_blocks bs)
   pub used_blocks_lem : blocks is_used bs ≡ length (used_blocks bs)
   pub all_blocks : blocks is_free bs + blocks is_used bs ≡ length bs
   -- The third figure plus one is the largest free block's size, where there is a free block: one has as many words, and none has more.
@@ -272,7 +272,7 @@ pub record Effects (s : State) (c : CommandArgs) : Type 0 where
   pub load : function_code_of c.packet ≡ 4 → LoadDone s c (command_call s c)
   pub pool : function_code_of c.packet ≡ 7 → PoolDone s c (command_call s c)
   pub value : function_code_of c.packet ≡ 8 → AreBytes c.symbols → ValueDone s c (command_call s c)
-  pub by_name_lem : function_code_of c.packet ≡ 9 → AreBytes c.packet → ByNameDone s c (command_call s c)
+  pub by_name : function_code_of c.packet ≡ 9 → AreBytes c.packet → ByNameDone s c (command_call s c)
 
 -- SLOTS
 

@@ -69,7 +69,7 @@ asked (slot c) = nothing
 pub record AskedIs (c : CommandArgs) : Type 0 where
   pub dumps : function_code_of c.packet ≡ 0 → asked (command c) ≡ dump (command_transaction c.packet) (range_of c.packet)
   pub cancels : function_code_of c.packet ≡ 1 → asked (command c) ≡ cancel (command_transaction c.packet)
-  pub by_name_lem : function_code_of c.packet ≡ 9 → (v a : ℕ) → IsTable c.symbols → Named c.symbols (name_from c.packet) v
+  pub by_name : function_code_of c.packet ≡ 9 → (v a : ℕ) → IsTable c.symbols → Named c.symbols (name_from c.packet) v
       → Reached v (four c.packet 60) a → asked (command c) ≡ dump (command_transaction c.packet) (range_from c.packet a)
   pub other : function_code_of c.packet ≢ 0 → function_code_of c.packet ≢ 1 → function_code_of c.packet ≢ 9 → asked (command c) ≡ nothing
 

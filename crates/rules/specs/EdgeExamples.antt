@@ -58,7 +58,7 @@ pub record EdgeExamples : Type 0 where
   -- a busy number, in a region without dump right
   pub right_before_number : numbers crowded (map (send (replicate 6 0)) (dump 1 1 0x1000 ∷ dump 1 1 0x2000 ∷ [])) ≡ 0 ∷ 11 ∷ []
   -- a dump packet of no words, and of 1,017, whose length is right
-  pub packet_words_lem : packet_numbers
+  pub packet_words : packet_numbers
       (set (set (take 28 dump_packet) 5 21) 27 0
       ∷ (0x03 ∷ 0x14 ∷ 0xC0 ∷ 0 ∷ 0x0F ∷ 0xF9 ∷ 0x21 ∷ 0x23 ∷ 0 ∷ 0 ∷ 0 ∷ 5 ∷ 0 ∷ 0 ∷ 0x10 ∷ 0 ∷ 0 ∷ 0 ∷ 3 ∷ 0xF9 ∷ 0 ∷ 0 ∷ 0x10 ∷ 0 ∷ 0 ∷ 0 ∷ 3 ∷ 0xF9 ∷ replicate 4068 0)
       ∷ [])

@@ -24,7 +24,7 @@ module _ (s : State) (load dump : CommandArgs) (tick : ℕ) (buffer : List ℕ) 
     pub load_bytes : AreBytes load.packet
     pub load_code : byte load.packet 6 ≡ 4
     pub load_done : answer_number loaded.answer ≡ 0
-    pub dump_bytes_lem : AreBytes dump.packet
+    pub dump_bytes : AreBytes dump.packet
     pub dump_code : byte dump.packet 6 ≡ 0
     pub dump_done : answer_number asked.answer ≡ 0
     pub same_size : two dump.packet 10 ≡ two load.packet 10

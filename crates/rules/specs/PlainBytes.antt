@@ -60,7 +60,7 @@ pub record CommandFields (p : List ℕ) : Type 0 where
   pub load : byte p 6 % 128 ≡ 4 → decode p ≡ Known (Load (request_at p))
   pub statistics : byte p 6 % 128 ≡ 7 → decode p ≡ Known (PoolStatistics (two p 10))
   pub value : byte p 6 % 128 ≡ 8 → decode p ≡ Known (SymbolValue (byte p 10))
-  pub by_name_lem : byte p 6 % 128 ≡ 9 → decode p ≡ Known (DumpSymbol (record { name = byte p 10; offset = four p 60; size = two p 64 }))
+  pub by_name : byte p 6 % 128 ≡ 9 → decode p ≡ Known (DumpSymbol (record { name = byte p 10; offset = four p 60; size = two p 64 }))
   pub other : byte p 6 % 128 ≢ 0 → byte p 6 % 128 ≢ 1 → byte p 6 % 128 ≢ 4 → byte p 6 % 128 ≢ 7 → byte p 6 % 128 ≢ 8 → byte p 6 % 128 ≢ 9
       → decode p ≡ Unknown
   -- the eleven data words of a load
@@ -169,12 +169,12 @@ pub record AskedOfCallers : Type 0 where
   pub cancel : CommandFits Cancel
   pub pool : (i : ℕ) → i < 65536 → CommandFits (PoolStatistics i)
   pub value : (n : ℕ) → n < 256 → CommandFits (SymbolValue n)
-  pub by_name_lem : (q : SymbolRequest) → q.name < 256 → q.offset < 4294967296 → q.size < 65536 → CommandFits (DumpSymbol q)
+  pub by_name : (q : SymbolRequest) → q.name < 256 → q.offset < 4294967296 → q.size < 65536 → CommandFits (DumpSymbol q)
   pub slots : (s : State) (c : SlotArgs) → Good s → length c.image ≡ words_in (take s.count s.regions) → 4092 ≤ length c.buffer
       → c.tick < 4294967296 → ((i : ℕ) → i < length c.image → get_or c.image i 0 < 4294967296) → SlotFits s c
   -- of a list of calls only that what is lent as packets are bytes
   pub no_call : LendsBytes []
-  pub command_call_lem : (c : CommandArgs) (cs : List Call) → AreBytes c.packet → LendsBytes cs → LendsBytes (command c ∷ cs)
+  pub command_call : (c : CommandArgs) (cs : List Call) → AreBytes c.packet → LendsBytes cs → LendsBytes (command c ∷ cs)
   pub slot_call_lem : (c : SlotArgs) (cs : List Call) → LendsBytes cs → LendsBytes (slot c ∷ cs)
 
 pub record PlainBytes : Type 0 where

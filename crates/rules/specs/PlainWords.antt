@@ -72,7 +72,7 @@ pub record PlainWords : Type 0 where
   -- in a good state each pool that is there, and each busy dump, lies in a region with dump right, from one of its words on; a pool that is not has no start
   pub pool_lies : (s : State) (pool : ℕ) → good_state s ≡ true → pool ≤ 1 → 1 ≤ (get_or s.pools pool empty_range).words
       → LiesDumpable s (get_or s.pools pool empty_range)
-  pub no_pool_lem : (s : State) (pool : ℕ) → good_state s ≡ true → pool ≤ 1 → (get_or s.pools pool empty_range).words ≡ 0
+  pub no_pool : (s : State) (pool : ℕ) → good_state s ≡ true → pool ≤ 1 → (get_or s.pools pool empty_range).words ≡ 0
       → (get_or s.pools pool empty_range).start.0 ≡ 0
   pub dump_lies : (s : State) (i : ℕ) (d : ActiveDump) → good_state s ≡ true → i < 4 → context_at s.places i ≡ Busy d → LiesDumpable s d.range
   -- the words of a range and of a pool

@@ -16,20 +16,20 @@ pub record Five : Type 0 where
   pub free_words : ℕ
   pub free_blocks_lem : ℕ
   pub largest : ℕ
-  pub used_words_lem : ℕ
+  pub used_words : ℕ
   pub used_blocks_lem : ℕ
 
 -- These words have these figures: none has none; a first word w, and as many words after it as its low 31 bits say less one, are one block more, free if
 -- the top bit is 0 and used if it is 1.
 pub data Counted : List ℕ → Five → Type 0 where
-  none : Counted [] (record { free_words = 0; free_blocks_lem = 0; largest = 0; used_words_lem = 0; used_blocks_lem = 0 })
+  none : Counted [] (record { free_words = 0; free_blocks_lem = 0; largest = 0; used_words = 0; used_blocks_lem = 0 })
   free : (w : ℕ) (rest ws : List ℕ) (f : Five) → w / 2147483648 ≡ 0 → w % 2147483648 ≡ suc (length rest) → Counted ws f
       → Counted (w ∷ rest ++ ws)
       (record {
         free_words = f.free_words + w % 2147483648;
         free_blocks_lem = f.free_blocks_lem + 1;
         largest = max f.largest (w % 2147483648);
-        used_words_lem = f.used_words_lem;
+        used_words = f.used_words;
         used_blocks_lem = f.used_blocks_lem;
       })
   used : (w : ℕ) (rest ws : List ℕ) (f : Five) → w / 2147483648 ≡ 1 → w % 2147483648 ≡ suc (length rest) → Counted ws f
@@ -38,7 +38,7 @@ pub data Counted : List ℕ → Five → Type 0 where
         free_words = f.free_words;
         free_blocks_lem = f.free_blocks_lem;
         largest = f.largest;
-        used_words_lem = f.used_words_lem + w % 2147483648;
+        used_words = f.used_words + w % 2147483648;
         used_blocks_lem = f.used_blocks_lem + 1;
       })
 
@@ -58,7 +58,7 @@ pub record PoolReply (s : State) (c : CommandArgs) : Type 0 where
   pub free_words : four (command_call s c).buffer 12 ≡ five.free_words
   pub free_blocks_lem : four (command_call s c).buffer 16 ≡ five.free_blocks_lem
   pub usable : four (command_call s c).buffer 20 ≡ five.largest - 1
-  pub used_words_lem : four (command_call s c).buffer 24 ≡ five.used_words_lem
+  pub used_words : four (command_call s c).buffer 24 ≡ five.used_words
   pub used_blocks_lem : four (command_call s c).buffer 28 ≡ five.used_blocks_lem
 
 -- THE VALUE OF A SYMBOL

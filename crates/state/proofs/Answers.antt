@@ -25,11 +25,11 @@ module _ (rs : List Region) (n : ℕ) (ps : List Range) (unit : ℕ) (w : ℕ) (
   start_words_count h = (table_count rs n (start_table rs n ps unit (start_words_some h).0)).1
 
 module _ (s : State) (w : ℕ) (e : w ≡ cond (good_state s) (image_length s.regions s.count) 0) where
-  good_table_lem : good_state s ≡ true → table_rules s.regions s.count ≡ true
-  good_table_lem h = start_table s.regions s.count s.pools s.unit (good_start s h)
+  good_table : good_state s ≡ true → table_rules s.regions s.count ≡ true
+  good_table h = start_table s.regions s.count s.pools s.unit (good_start s h)
 
   pub good_words_none : w ≡ 0 → good_state s ≡ false
-  good_words_none = words_none s.regions s.count (good_state s) good_table_lem w e
+  good_words_none = words_none s.regions s.count (good_state s) good_table w e
 
   pub good_words_some : w ≢ 0 → (good_state s ≡ true) × (w ≡ image_length s.regions s.count)
-  good_words_some = words_some s.regions s.count (good_state s) good_table_lem w e
+  good_words_some = words_some s.regions s.count (good_state s) good_table w e

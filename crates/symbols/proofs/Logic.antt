@@ -45,9 +45,9 @@ module _ (t : List ℕ) where
       contra (same_in (name_at t i) (name_at t j) e)
       (not-true _ (all_at (is_new t i) i (and_right (record_rules t i) (all_below (is_new t i) i) h) l))
 
-  pub table_rules_lem : symbol_table t ≡ true → {i : ℕ} → i < symbols_in t → symbol_rules t i ≡ true
+  pub table_rules : symbol_table t ≡ true → {i : ℕ} → i < symbols_in t → symbol_rules t i ≡ true
   unfolding symbol_table
-  table_rules_lem h l = all_at (symbol_rules t) (symbols_in t) (and_right (count_rule t) (all_below (symbol_rules t) (symbols_in t)) h) l
+  table_rules h l = all_at (symbol_rules t) (symbols_in t) (and_right (count_rule t) (all_below (symbol_rules t) (symbols_in t)) h) l
 
   pub table_out : symbol_table t ≡ true → IsTable t
   unfolding symbol_table
@@ -58,10 +58,10 @@ module _ (t : List ℕ) where
         n = symbols_in t;
         bytes = omega arith;
         most = leb-true _ _ (and_right (whole_rule t) (leb (symbols_in t) 256) count);
-        symbols = λ i l. symbol_out (table_rules_lem h l);
+        symbols = λ i l. symbol_out (table_rules h l);
         apart = λ i j li lj ne. by_order i j
-            (λ l e. new_out j i (table_rules_lem h lj) l (sym e))
-            (λ l. new_out i j (table_rules_lem h li) l)
+            (λ l e. new_out j i (table_rules h lj) l (sym e))
+            (λ l. new_out i j (table_rules h li) l)
             (λ e. absurd (ne e));
       }
 

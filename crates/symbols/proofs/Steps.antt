@@ -19,7 +19,7 @@ use Rattle.symbols.specs.declared.Symbol.TheVariants.{Unknown, Value}
 use Rattle.symbols.specs.Record.{record_rules}
 use Rattle.symbols.proofs.Numbers.{part_byte, part_number}
 use Rattle.symbols.proofs.Records.{record_in}
-use Rattle.symbols.proofs.Logic.{is_new, is_named, table_rules_lem, table_out, table_count, alias_of, value_own, value_alias}
+use Rattle.symbols.proofs.Logic.{is_new, is_named, table_rules, table_out, table_count, alias_of, value_own, value_alias}
 
 -- one that fails makes a test of all fail
 pub all_not : (p : ℕ → Bool) (n : ℕ) {i : ℕ} → i < n → p i ≡ false → false ≡ all_below p n
@@ -47,7 +47,7 @@ pub table_not : (t : List ℕ) → (IsTable t → ⊥) → false ≡ symbol_tabl
 table_not t f = either (symbol_table t) (λ h. absurd (f (table_out t h))) (λ h. sym h)
 
 pub table_broken : (t : List ℕ) {i : ℕ} → i < symbols_in t → symbol_rules t i ≡ false → false ≡ symbol_table t
-table_broken t l f = either (symbol_table t) (λ h. absurd (contra (table_rules_lem t h l) f)) (λ h. sym h)
+table_broken t l f = either (symbol_table t) (λ h. absurd (contra (table_rules t h l) f)) (λ h. sym h)
 
 pub table_kept : (t : List ℕ) → length t % 56 ≡ 0 → symbols_in t ≤ 256 → all_below (symbol_rules t) (symbols_in t) ≡ true → true ≡ symbol_table t
 unfolding symbol_table

@@ -37,7 +37,7 @@ module _ (t name : List ℕ) where
   with_none e =
       rw (none_there e)
       (record {
-        no_table_lem = (λ z i. contra ((table_when t).1 i) e, λ n. refl);
+        no_table = (λ z i. contra ((table_when t).1 i) e, λ n. refl);
         unknown = (λ z. absurd (omega arith), λ (i, n). absurd (contra ((table_when t).1 i) e));
         value = λ v. (λ z. absurd (apart z), λ (i, n). absurd (contra ((table_when t).1 i) e));
       })
@@ -49,14 +49,14 @@ module _ (t name : List ℕ) where
       (λ h.
       rw (there e h)
       (record {
-        no_table_lem = (λ z. absurd (omega arith), λ n. absurd (n i));
+        no_table = (λ z. absurd (omega arith), λ n. absurd (n i));
         unknown = (λ z. absurd (omega arith), λ (j, n). absurd (n (value_of t name) ((resolves_when t name (value_of t name) i).1 (h, refl))));
         value = λ v. (λ z. (i, (resolves_when t name v i).1 (h, same_value z)), λ (j, n). ap (λ (x : ℕ). Value x) ((resolves_when t name v i).0 n).1);
       }))
       (λ h.
       rw (not_there e h)
       (record {
-        no_table_lem = (λ z. absurd (omega arith), λ n. absurd (n i));
+        no_table = (λ z. absurd (omega arith), λ n. absurd (n i));
         unknown = (λ z. (i, λ v n. contra ((resolves_when t name v i).0 n).0 h), λ n. refl);
         value = λ v. (λ z. absurd (unknown_apart z), λ (j, n). absurd (contra ((resolves_when t name v i).0 n).0 h));
       }))

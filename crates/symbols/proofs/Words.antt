@@ -70,8 +70,8 @@ module _ (t : List ℕ) (i j : ℕ)
   test_same : name_at t i ≡ name_at t j → (at : ℕ) → 4 ≤ at → at ≤ 44 → same_word at ≡ true
   test_same e at l h = eq-eqb (word_at t j at) (word_at t i at) (word_same e at l h)
 
-  words_in_lem : name_at t i ≡ name_at t j → has_words t (name_words t i) j ≡ true
-  words_in_lem e =
+  words_in : name_at t i ≡ name_at t j → has_words t (name_words t i) j ≡ true
+  words_in e =
       let n = eq-eqb (name_length_at t j) (name_length_at t i) (sym (lengths_same t i j p.0 p.1 si sj e)) in
       and_both
       (and_both
@@ -107,7 +107,7 @@ module _ (t : List ℕ) (i j : ℕ)
     words_same =
         either (has_words t (name_words t i) j)
         (λ h. h ∙ sym (same_in (name_at t i) (name_at t j) (words_out h)))
-        (λ h. h ∙ sym (apart_name (name_at t i) (name_at t j) (λ e. contra (words_in_lem e) h)))
+        (λ h. h ∙ sym (apart_name (name_at t i) (name_at t j) (λ e. contra (words_in e) h)))
 
   first_apart : has_first t (word_at t i 4) j ≡ false → same_name (name_at t i) (name_at t j) ≡ false
   first_apart h = apart_name (name_at t i) (name_at t j) (λ e. eqb-false _ _ h (word_same e 4 (omega arith) (omega arith)))

@@ -31,6 +31,6 @@ symbol_number (Value v) = 0
 
 -- each exactly in its case: what a lookup answers
 pub record SymbolNumbers (t name : List ℕ) (r : Symbol) : Type 0 where
-  pub no_table_lem : (symbol_number r ≡ 17) ↔ (IsTable t → ⊥)
+  pub no_table : (symbol_number r ≡ 17) ↔ (IsTable t → ⊥)
   pub unknown : (symbol_number r ≡ 18) ↔ (IsTable t × ((v : ℕ) → Named t name v → ⊥))
   pub value : (v : ℕ) → (r ≡ Value v) ↔ (IsTable t × Named t name v)

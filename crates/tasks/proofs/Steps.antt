@@ -62,8 +62,8 @@ module _ (moved size : ℕ) where
     not_aligned n = rw (le-leb 4294967296 moved low, lt-ltb moved 8589934592 high, ne_eqb ((moved - 4294967296) % 4) 0 n)
 
     module _ (aligned : (moved - 4294967296) % 4 ≡ 0) where
-      pub no_words_lem : size ≡ 0 → Denied BadField ≡ dump_from moved size
-      no_words_lem e = rw (e, le-leb 4294967296 moved low, lt-ltb moved 8589934592 high, aligned)
+      pub no_words : size ≡ 0 → Denied BadField ≡ dump_from moved size
+      no_words e = rw (e, le-leb 4294967296 moved low, lt-ltb moved 8589934592 high, aligned)
 
       pub some_words : 1 ≤ size → (a n : ℕ) → a ≡ moved - 4294967296 → n ≡ size
           → Asked (DumpRange (record { start = record { 0 = a }; words = n })) ≡ dump_from moved size

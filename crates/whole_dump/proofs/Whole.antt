@@ -212,13 +212,13 @@ whole_in N ps w = (N (back_to_back ps) (lengths_of ps)).zero.1 (fits ps w, all_s
 
 -- THE WORDS
 
-words_from_lem : (unit transaction : ℕ) (r : Range) (ps : List (List ℕ)) (j : ℕ) → InOrder unit transaction r j ps → j + length ps ≡ packets_due r
+words_from : (unit transaction : ℕ) (r : Range) (ps : List (List ℕ)) (j : ℕ) → InOrder unit transaction r j ps → j + length ps ≡ packets_due r
     → length (data_of ps) ≡ 4 * (r.words - 1016 * j)
 unfolding pieces piece_words
-words_from_lem unit transaction r [] j o e = omega arith
-words_from_lem unit transaction r (p ∷ ps) j o e =
+words_from unit transaction r [] j o e = omega arith
+words_from unit transaction r (p ∷ ps) j o e =
     let i = its_piece p o.0.is_read_lem in
-    let rest = words_from_lem unit transaction r ps (suc j) o.1 (omega arith) in
+    let rest = words_from unit transaction r ps (suc j) o.1 (omega arith) in
     let k : i.piece ≡ j = omega (arith, i.has.1, o.0.here, o.0.address) in
     let size : length (read_packet p).part ≡ 4 * min 1016 (r.words - 1016 * j) = rw (← k, ← o.0.words) i.size in
     simp length-append (omega arith)
@@ -228,7 +228,7 @@ zero_means N = record { whole = λ bytes lengths ok. (out bytes lengths ok, λ (
   where
     words_of : (ps : List (List ℕ)) (w : WholeDump ps) → length (data_of w.ordered) ≡ 4 * w.range.words
     words_of ps w =
-        omega (arith, words_from_lem w.unit w.transaction w.range w.ordered 0 w.each (zero-add (length w.ordered) ∙ w.all))
+        omega (arith, words_from w.unit w.transaction w.range w.ordered 0 w.each (zero-add (length w.ordered) ∙ w.all))
 
     out : (bytes lengths : List ℕ) → AreBytes lengths → check_dump bytes lengths ≡ 0
         → (ps : List (List ℕ)) × WholeDump ps × (bytes ≡ back_to_back ps) × (lengths ≡ lengths_of ps)

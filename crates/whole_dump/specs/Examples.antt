@@ -55,7 +55,7 @@ pub record CheckExamples : Type 0 where
   -- the lowest of two missing pieces
   pub lowest : check (middle ∷ []) ≡ 131072
   -- another unit, transaction, requested address, requested words
-  pub other_unit_lem : check (first 0x21 0x23 0 5 ∷ second 0x31 0x23 1 6 ∷ []) ≡ 65537
+  pub other_unit : check (first 0x21 0x23 0 5 ∷ second 0x31 0x23 1 6 ∷ []) ≡ 65537
   pub far_unit : check (first 0x21 0x23 0 5 ∷ second 0xA1 0x23 1 6 ∷ []) ≡ 65537
   pub other_transaction : check (first 0x21 0x23 0 5 ∷ second 0x21 0x24 1 6 ∷ []) ≡ 65537
   pub far_transaction : check (first 0x21 0x23 0 5 ∷ second 0x22 0x23 1 6 ∷ []) ≡ 65537
@@ -72,7 +72,7 @@ pub record CheckExamples : Type 0 where
   pub one_short : check_dump e2 (0 ∷ 37 ∷ []) ≡ 65536
   pub past_the_end : check_dump e2 (0 ∷ 36 ∷ 0 ∷ 36 ∷ []) ≡ 65537
   -- the first of two bad packets; a bad one before a missing piece; 3 before both
-  pub first_bad_lem : check (e2 ∷ [] ∷ [] ∷ []) ≡ 65537
+  pub first_bad : check (e2 ∷ [] ∷ [] ∷ []) ≡ 65537
   pub third_bad : check (first 0x21 0x23 0 5 ∷ second 0x21 0x23 0 5 ∷ [] ∷ []) ≡ 65538
   pub bad_and_missing : check (second 0x21 0x23 1 6 ∷ second 0x21 0x23 2 7 ∷ []) ≡ 65537
   pub odd_and_bad : check_dump [] (0 ∷ 0 ∷ 0 ∷ []) ≡ 3

@@ -110,9 +110,9 @@ module _ {M : Type 1} {𝓤 : Ura M} (𝓛 : Logic 𝓤) (mem : Memory → SProp
   abbrev RecordAt : Contract 𝓤
   RecordAt = triple_of 𝓛 record-at.signature (record-at.spec 𝓛 mem run)
 
-  record_of_lem : (κs : Lfts 2) (ns ls : Bor (List ℕ)) (i : ℕ) (r : ItemAnswer)
+  record_of : (κs : Lfts 2) (ns ls : Bor (List ℕ)) (i : ℕ) (r : ItemAnswer)
       → ent 𝓤 (ensured 𝓛 record-at.ended (record-at.clauses 𝓛 mem run) κs (ns, (ls, (i, tt))) tt r) (fact 𝓤 (r ≡ record_at (answers_of ns.now ls.now) i))
-  record_of_lem κs ns ls i r = ex_e 𝓤 _ (λ ws. snd∗ 𝓤 (sem 𝓛 (lasts record-at.ended κs (ns, (ls, (i, tt))) ws)) (fact 𝓤 (r ≡ record_at (answers_of ns.now ls.now) i)))
+  record_of κs ns ls i r = ex_e 𝓤 _ (λ ws. snd∗ 𝓤 (sem 𝓛 (lasts record-at.ended κs (ns, (ls, (i, tt))) ws)) (fact 𝓤 (r ≡ record_at (answers_of ns.now ls.now) i)))
 
 module _ {M : Type 1} {𝓤 : Ura M} (𝓛 : Logic 𝓤) (mem : Memory → SProp 𝓤) (run : Routine → Fun 𝓤) (κ κ₁ κ₂ : Lft) (q q₁ q₂ : Share) (b o : ℕ) (γ : GName) (xs : List ItemAnswer) (ns ls : MutBor (List ℕ)) (n : ℕ)
     (room : Room R.the_row (length xs)) (room₁ : Room u8 (length ns.now)) (room₂ : Room u8 (length ls.now)) (n-fits : n < 2 ^ 64) (n_within : n ≤ length xs) where
@@ -242,7 +242,7 @@ module _ {M : Type 1} {𝓤 : Ura M} (𝓛 : Logic 𝓤) (mem : Memory → SProp
         -- [what the callee asks; lengths; numbers; the row; _5; _6; _7; _8; _9; _1; _2; _3; _4; …]
         calls_at ! (fm_of 𝓤 H 𝓛.laws 𝓣) (RecordAt 𝓛 mem run) known-record (to_record i.0) (and_then ! (load ! (from ! (stop !)) (look ! 10 refl)) (and_then ! (load ! (from ! (stop !)) (look ! 11 refl)) (and_then ! (load ! (from ! (stop !)) (look ! 4 refl)) (no_more !)))) (λ v.
         use1 𝓛 (later (some (λ (r : ItemAnswer). (Tokens ⊛ ‵ ((R.the_row).own_val r (v ∷ []))) ⊛ raw (ensured 𝓛 record-at.ended (record-at.clauses 𝓛 mem run) (κ₁, (κ₂, tt)) (ns, (ls, (i.0, tt))) tt r)))) (id⊢ 𝓤 _) $ await ! tt $ pick ! (λ r.
-        split ! $ move ! (1 ∷ []) $ use1 𝓛 (raw (fact 𝓤 (r ≡ record_at a i.0))) (record_of_lem 𝓛 mem run (κ₁, (κ₂, tt)) ns ls i.0 r) $ heard ! (r ≡ record_at a i.0) (λ e. split ! $
+        split ! $ move ! (1 ∷ []) $ use1 𝓛 (raw (fact 𝓤 (r ≡ record_at a i.0))) (record_of 𝓛 mem run (κ₁, (κ₂, tt)) ns ls i.0 r) $ heard ! (r ≡ record_at a i.0) (λ e. split ! $
         move ! (1 ∷ []) $ peeks ! R.the_row (Is R.the_row) (shows 𝓛 R.the_row) r (v ∷ []) (λ is. move ! (0 ∷ 4 ∷ 5 ∷ 6 ∷ 7 ∷ 8 ∷ 9 ∷ 10 ∷ 3 ∷ 2 ∷ 1 ∷ []) $
         -- [what r owns; the row; _5; _6; _7; _8; _9; _1; numbers; lengths; the tokens; _2; _3; _4; …]
         land ! (from ! (stop !)) (init ! 3 refl ((LL.lawful R.the_type R'.the_laws 𝓛).typed r _ is).0) $

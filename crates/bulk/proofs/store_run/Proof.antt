@@ -8,7 +8,7 @@ use Rattle.lists.specs.Splice.{splice}
 use Rattle.lists.proofs.Runs.{splice_none, copy_turn}
 use Rattle.wire.specs.Bytes.{words_at}
 use Rattle.wire.proofs.Words.{words_at_length, words_at_word}
-use Rattle.bulk.proofs.Words.{first_words_lem}
+use Rattle.bulk.proofs.Words.{first_words}
 use borrow.Author.Rules.{rules}
 use Rattle.bulk.proofs.store_run.Statement.{statement}
 use Rattle.bulk.proofs.store_run.Tie as tie
@@ -63,7 +63,7 @@ returns : tie.Need-returns invariant-loop decreases-loop
 returns c =
     let a = c.before.before.before.before.args in
     let n : c.before.loop.i ≡ a.n = omega arith in
-    rw (n, first_words_lem a.n a.n a.packet.now a.at (omega arith)) at c.before.loop.invariant.1
+    rw (n, first_words a.n a.n a.packet.now a.at (omega arith)) at c.before.loop.invariant.1
 
 pub store_run_spec : {M : Type 1} → statement M
 store_run_spec =

@@ -3,7 +3,7 @@
 use mathlib.Core.Path.{refl}
 use native.Mathlib.Omega.{arith}
 use borrow.Author.Tests.{not-true, not-false}
-use Rattle.bulk.proofs.Words.{first_words_lem}
+use Rattle.bulk.proofs.Words.{first_words}
 use borrow.Author.Rules.{rules}
 use Rattle.bulk.proofs.store_words.Statement.{statement}
 use Rattle.bulk.proofs.store_words.Tie as tie
@@ -27,7 +27,7 @@ returns-3 : tie.Need-returns-3
 returns-3 c =
     let run = c.before.before in
     let at_test = run.before.before in (
-      λ h k. rw first_words_lem run.store-run.ensures,
+      λ h k. rw first_words run.store-run.ensures,
       λ n. absurd (n (omega arith) (at_test.before.has_words.ensures.0 (not-false _ at_test.if2.false))),
     )
 

@@ -106,11 +106,11 @@ module _ {M : Type 1} {𝓤 : Ura M} (𝓛 : Logic 𝓤) (mem : Memory → SProp
   room = length an.now
 
   -- ---- what the core's contract says
-  abbrev left_by_lem : Batch (List ℕ)
-  left_by_lem = lg_commands st.now (lends bs.now ss.now ls.now sy.now im.now rs.now) room
+  abbrev left_by : Batch (List ℕ)
+  left_by = lg_commands st.now (lends bs.now ss.now ls.now sy.now im.now rs.now) room
 
   abbrev Said : Answered → (st' im' rs' : List ℕ) → Type 0
-  Said r st' im' rs' = (r.number ≡ verdict_number left_by_lem.verdict) × Answers r room left_by_lem.left.answers × LeftAs left_by_lem st' im' rs'
+  Said r st' im' rs' = (r.number ≡ verdict_number left_by.verdict) × Answers r room left_by.left.answers × LeftAs left_by st' im' rs'
 
   -- ---- the function's own lifetimes, arguments and machine values, and what its `post` is
   abbrev κs : Lfts 8

@@ -1,7 +1,7 @@
 -- `lent_command::by_task` meets its contract.
 -- Assumes nothing.
 use native.Mathlib.Omega.{arith}
-use Rattle.block.proofs.GoodWords.{state_is, block_words_lem}
+use Rattle.block.proofs.GoodWords.{state_is, block_words}
 use Rattle.lent_state.proofs.Uses.{with_in, idle_in}
 use Rattle.lent_command.proofs.Steps.{pool_decided, value_decided}
 use borrow.Author.Rules.{rules}
@@ -15,7 +15,7 @@ part-ps-start : tie.Need-slice-bounds-ps-start
 part-ps-start c = search rules
 
 part-ps-end : tie.Need-slice-bounds-ps-end
-part-ps-end c = let n = block_words_lem _ c.before.before.requires in omega arith
+part-ps-end c = let n = block_words _ c.before.before.requires in omega arith
 
 enum_told : tie.Need-enum-told
 enum_told c = search rules
@@ -66,7 +66,7 @@ part-range-in-start : tie.Need-slice-bounds-range-in-start
 part-range-in-start c = search rules
 
 part-range-in-end : tie.Need-slice-bounds-range-in-end
-part-range-in-end c = let n = block_words_lem _ c.before.before.before.before.before.before.requires in omega arith
+part-range-in-end c = let n = block_words _ c.before.before.before.before.before.before.requires in omega arith
 
 cast-range-in : tie.Need-overflow-cast-range-in
 cast-range-in c = search rules

@@ -1,6 +1,6 @@
 -- `lent_places::put_context` meets its contract.
 -- Assumes nothing.
-use Rattle.lent_places.proofs.Steps.{other_length, no_place_lem, place_written}
+use Rattle.lent_places.proofs.Steps.{other_length, no_place, place_written}
 use borrow.Author.Rules.{rules}
 use Rattle.lent_places.proofs.put_context.Statement.{statement}
 use Rattle.lent_places.proofs.put_context.Tie as tie
@@ -9,7 +9,7 @@ returns : tie.Need-returns
 returns c = other_length _ _ _ c.if1.true
 
 returns-2 : tie.Need-returns-2
-returns-2 c = no_place_lem _ _ _ c.before.if1.false c.if2.true
+returns-2 c = no_place _ _ _ c.before.if1.false c.if2.true
 
 context-words-requires : tie.Need-context-words-requires
 context-words-requires c κs = search rules

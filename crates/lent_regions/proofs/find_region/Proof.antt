@@ -6,12 +6,12 @@ use Prim.Native.Nat.{◌<◌}
 use native.Mathlib.Omega.{arith}
 use Rattle.regions.proofs.Steps.{found_none}
 use Rattle.block.specs.Blocks.{regions_in}
-use Rattle.lent_regions.proofs.Steps.{found_past, found_here, no_table_lem, in_table}
+use Rattle.lent_regions.proofs.Steps.{found_past, found_here, no_table, in_table}
 use Rattle.lent_regions.proofs.find_region.Statement.{statement}
 use Rattle.lent_regions.proofs.find_region.Tie as tie
 
 returns : tie.Need-returns
-returns c = let a = c.before.before.args in no_table_lem a.rs.now a.n a.a c.if1.true
+returns c = let a = c.before.before.args in no_table a.rs.now a.n a.a c.if1.true
 
 first-word-requires : tie.Need-first-word-requires
 first-word-requires c κs = search rules

@@ -1,7 +1,7 @@
 -- `lent_slot::by_turn` meets its contract.
 -- Assumes nothing.
 use native.Mathlib.Omega.{arith}
-use Rattle.block.proofs.GoodWords.{block_is, state_is, block_words_lem}
+use Rattle.block.proofs.GoodWords.{block_is, state_is, block_words}
 use Rattle.lent_state.proofs.Uses.{turn_in}
 use Rattle.lent_slot.proofs.Steps.{sent_on}
 use borrow.Author.Rules.{rules}
@@ -15,7 +15,7 @@ part-next-turn-start : tie.Need-slice-bounds-next-turn-start
 part-next-turn-start c = search rules
 
 part-next-turn-end : tie.Need-slice-bounds-next-turn-end
-part-next-turn-end c = let n = block_words_lem _ c.before.requires in omega arith
+part-next-turn-end c = let n = block_words _ c.before.requires in omega arith
 
 word-at-requires : tie.Need-word-at-requires
 word-at-requires c κs = search rules

@@ -2,8 +2,8 @@
 -- Assumes nothing.
 use borrow.Author.Rules.{rules}
 use native.Mathlib.Omega.{arith}
-use Rattle.block.proofs.GoodWords.{block_is, block_words_lem}
-use Rattle.lent_state.proofs.Uses.{index_in_lem}
+use Rattle.block.proofs.GoodWords.{block_is, block_words}
+use Rattle.lent_state.proofs.Uses.{index_in}
 use Rattle.lent_state.proofs.index.Statement.{statement}
 use Rattle.lent_state.proofs.index.Tie as tie
 
@@ -23,7 +23,7 @@ part-word-index-start : tie.Need-slice-bounds-word-index-start
 part-word-index-start c = search rules
 
 part-word-index-end : tie.Need-slice-bounds-word-index-end
-part-word-index-end c = let n = block_words_lem _ c.before.before.before.before.requires in omega arith
+part-word-index-end c = let n = block_words _ c.before.before.before.before.requires in omega arith
 
 word-index-requires : tie.Need-word-index-requires
 word-index-requires c κs = search rules
@@ -38,7 +38,7 @@ returns-3 : tie.Need-returns-3
 returns-3 c =
     let known = c.before.before.before in
     let s = known.before.before.before in
-    rw known.found.given.1 (index_in_lem _ (block_is _ s.requires) _ _ c.word-index.ensures.0)
+    rw known.found.given.1 (index_in _ (block_is _ s.requires) _ _ c.word-index.ensures.0)
 
 pub index_spec : {M : Type 1} → statement M
 index_spec =

@@ -1,6 +1,6 @@
 -- `packet_reader::packet_verdict` meets its contract.
 -- Assumes nothing.
-use Rattle.packet_reader.proofs.Steps.{short, malformed, other_apid_lem, wrong_length_lem, no_cut, accepted}
+use Rattle.packet_reader.proofs.Steps.{short, malformed, other_apid, wrong_length, no_cut, accepted}
 use borrow.Author.Rules.{rules}
 use Rattle.packet_reader.proofs.packet_verdict.Statement.{statement}
 use Rattle.packet_reader.proofs.packet_verdict.Tie as tie
@@ -21,7 +21,7 @@ returns-3 : tie.Need-returns-3
 returns-3 c =
     let x = c.before in
     let r = x.before.before in
-    other_apid_lem _ r.before.if1.false _ r.primary-rules.ensures x.before.if2.false _ x.read16.ensures c.if3.true
+    other_apid _ r.before.if1.false _ r.primary-rules.ensures x.before.if2.false _ x.read16.ensures c.if3.true
 
 packet-fields-requires : tie.Need-packet-fields-requires
 packet-fields-requires c κs = search rules
@@ -40,7 +40,7 @@ returns-4 c =
     let f = c.before.before in
     let x = f.before.before in
     let r = x.before.before in
-    wrong_length_lem _ r.before.if1.false _ r.primary-rules.ensures x.before.if2.false _ x.read16.ensures f.before.if3.false _ f.packet-fields.ensures c.if4.true
+    wrong_length _ r.before.if1.false _ r.primary-rules.ensures x.before.if2.false _ x.read16.ensures f.before.if3.false _ f.packet-fields.ensures c.if4.true
 
 cut-rules-requires : tie.Need-cut-rules-requires
 cut-rules-requires c κs = search rules

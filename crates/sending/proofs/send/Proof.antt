@@ -41,7 +41,7 @@ returns-2 : tie.Need-returns-2
 returns-2 c = rw c.before.enum-told2.given.1 c.nothing-to-send2.ensures
 
 returns-3 : tie.Need-returns-3
-returns-3 c = rw (c.before.before.before.before.before.before.enum-told3.given.1, ← c.before.before.before.before.address-after.ensures, ← c.before.before.before.packet_words_lem.ensures, ← c.before.word_after.ensures, ← c.after-packet.ensures)
+returns-3 c = rw (c.before.before.before.before.before.before.enum-told3.given.1, ← c.before.before.before.before.address-after.ensures, ← c.before.before.before.packet_words.ensures, ← c.before.word_after.ensures, ← c.after-packet.ensures)
 
 pub send_spec : {M : Type 1} → statement M
 send_spec =

@@ -17,7 +17,7 @@ returns c =
     let t = c.before.before in
     let a = t.before.args in
     start_refused a.rs a.n a.ps a.unit
-    (start_words_none a.rs a.n a.ps a.unit _ t.start_words.ensures c.before.if1.true) _ c.no_state_lem.ensures
+    (start_words_none a.rs a.n a.ps a.unit _ t.start_words.ensures c.before.if1.true) _ c.no_state.ensures
 
 entries-used-requires : tie.Need-entries-used-requires
 entries-used-requires c κs =

@@ -1,7 +1,7 @@
 -- `tasks::dump_from` meets its contract.
 -- Assumes nothing.
 use native.Mathlib.Omega.{arith}
-use Rattle.tasks.proofs.Steps.{below_0, too_high, not_aligned, no_words_lem, some_words}
+use Rattle.tasks.proofs.Steps.{below_0, too_high, not_aligned, no_words, some_words}
 use borrow.Author.Rules.{rules}
 use Rattle.tasks.proofs.dump_from.Statement.{statement}
 use Rattle.tasks.proofs.dump_from.Tie as tie
@@ -19,7 +19,7 @@ returns-3 : tie.Need-returns-3
 returns-3 c = let a = c.before.before.before.args in not_aligned a.moved a.size (omega arith) (omega arith) (omega arith)
 
 returns-4 : tie.Need-returns-4
-returns-4 c = let a = c.before.before.before.before.args in no_words_lem a.moved a.size (omega arith) (omega arith) (omega arith) (omega arith)
+returns-4 c = let a = c.before.before.before.before.args in no_words a.moved a.size (omega arith) (omega arith) (omega arith) (omega arith)
 
 returns-5 : tie.Need-returns-5
 returns-5 c = let a = c.before.before.before.before.args in some_words a.moved a.size (omega arith) (omega arith) (omega arith) (omega arith) _ _ (omega arith) (omega arith)
