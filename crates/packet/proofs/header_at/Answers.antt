@@ -1,0 +1,7 @@
+-- `packet::header_at` meets its contract.
+-- Assumes nothing.
+use borrow.Author.Rules.{rules}
+use Rattle.packet.proofs.header_at.Goals as goal
+
+pub returns : goal.returns
+returns c = rw (c.get16-identity.ensures, c.get16.ensures)

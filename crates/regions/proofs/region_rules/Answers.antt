@@ -1,0 +1,7 @@
+-- `regions::region_rules` meets its contract.
+-- Assumes nothing.
+use borrow.Author.Rules.{rules}
+use Rattle.regions.proofs.region_rules.Goals as goal
+
+pub returns : goal.returns
+returns c = rw c.end_of.ensures

@@ -1,0 +1,48 @@
+-- `regions::table_words` meets its contract.
+-- Assumes nothing.
+use mathlib.Core.Path.{◌≡◌, ◌∙◌}
+use mathlib.Core.Bool.{true}
+use Prim.Native.Nat.{◌*◌, ◌-◌, ◌≤◌}
+use native.Mathlib.Omega.{arith}
+use borrow.Author.Tests.{not-true, not-false}
+use Rattle.lists.specs.Below.{all_below}
+use Rattle.lists.proofs.Below.{all_more}
+use Rattle.rules.specs.Regions.{end_before, region_rules, words_below}
+use Rattle.regions.proofs.Steps.{table_outside, table_inside, table_broken, table_kept, end_more, words_more}
+use borrow.Author.Rules.{rules}
+use Rattle.regions.proofs.table_words.Goals as goal
+
+pub returns-then-n : goal.returns-then-n
+returns-then-n c = table_outside _ _ c.if-n.true
+
+pub loop-i-init : goal.loop-i-init
+unfolding words_below
+loop-i-init c =
+    let inside : (1 ≤ c.args.n) × (c.args.n ≤ 16) = table_inside c.args.t1 _ c.if-n.false in
+    (search rules, inside, search rules, search rules, search rules, search rules)
+
+pub returns-then-not-region_rules : goal.returns-then-not-region_rules
+returns-then-not-region_rules c =
+    let rs = c.args.t1 in
+    let i = c.loop-i.i in
+    table_broken rs _ i c.loop-i-test.true
+    (rw (← c.loop-i.invariant.4, ← c.region_rules.ensures) c.if-not-region_rules.true)
+
+pub loop-i-preserved : goal.loop-i-preserved
+loop-i-preserved c =
+    let rs = c.args.t1 in
+    let i = c.loop-i.i in
+    let kept : region_rules rs i ≡ true = rw (← c.loop-i.invariant.4, ← c.region_rules.ensures) c.if-not-region_rules.false in (
+      search rules,
+      c.loop-i.invariant.1,
+      rw c.loop-i.invariant.2 (words_more rs i),
+      search rules,
+      rw c.end_of-before.ensures (end_more rs i),
+      rw (all_more (region_rules rs) i, kept, c.loop-i.invariant.5),
+    )
+
+pub returns : goal.returns
+returns c =
+    let a = c.args in
+    let e : c.loop-i.i ≡ a.n = omega arith in
+    c.loop-i.invariant.2 ∙ rw e (table_kept a.t1 a.n c.loop-i.invariant.1.0 c.loop-i.invariant.1.1 (rw e at c.loop-i.invariant.5))

@@ -1,0 +1,15 @@
+-- `regions::words_below` meets its contract.
+-- Assumes nothing.
+use mathlib.Core.Path.{◌≡◌}
+use Prim.Native.Nat.{◌*◌, ◌-◌, ◌≤◌}
+use native.Mathlib.Omega.{arith}
+use Rattle.rules.specs.Regions.{words_below}
+use Rattle.regions.proofs.Steps.{words_more}
+use borrow.Author.Rules.{rules}
+use Rattle.regions.proofs.words_below.Given as goal
+
+abbrev pub invariant-loop-i : goal.invariant-loop-i
+invariant-loop-i l = (l.i ≤ l.k) × (l.total ≡ words_below l.rs l.i) × (l.total ≤ 4294967296 * l.i)
+
+abbrev pub decreases-loop-i : goal.decreases-loop-i
+decreases-loop-i l = l.k - l.i
