@@ -197,5 +197,5 @@ module _ (rs : List Region) (a : Range) where
       there : (n : ℕ) → table_rules rs n ≡ true → IndexWhen rs n k a w
       there n rules l =
           let low = (table_count rs n rules).1 in
-          let used = l.in-use in
+          let used = l.in_use in
           ap (λ (x : WordIndex). x.0) e ∙ rw (lt-ltb k 16 (omega arith), words_sum rs k)

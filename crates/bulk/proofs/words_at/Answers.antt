@@ -7,14 +7,6 @@ use borrow.Author.Tests.{not-true, not-false}
 use borrow.Author.Rules.{rules}
 use Rattle.bulk.proofs.words_at.Goals as goal
 
--- NO NEED
-part-result-start-2 : tie.Need-slice-bounds-result-start-2
-part-result-start-2 c = search rules
-
--- NO NEED
-part-result-end-2 : tie.Need-slice-bounds-result-end-2
-part-result-end-2 c = omega (arith, c.before.has_words.ensures.0 (not-false _ c.if1.false))
-
 pub returns-then-not-has_words : goal.returns-then-not-has_words
 returns-then-not-has_words c = (λ h. absurd (omega (arith, c.has_words.ensures.1 c.if-not-has_words.true)), λ n. refl)
 
@@ -23,6 +15,9 @@ overflow_add-end c = omega (arith, c.has_words.ensures.0 c.if-not-has_words.fals
 
 pub offset_bounds-image-start : goal.offset_bounds-image-start
 offset_bounds-image-start c = omega (arith, c.has_words.ensures.0 c.if-not-has_words.false)
+
+pub slice_bounds-result-end-2 : goal.slice_bounds-result-end-2
+slice_bounds-result-end-2 c = omega (arith, c.has_words.ensures.0 c.if-not-has_words.false)
 
 pub returns : goal.returns
 returns c =

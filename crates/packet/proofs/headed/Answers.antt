@@ -9,12 +9,12 @@ use Rattle.packet.proofs.headed.Goals as goal
 
 pub returns-then-not-well_formed : goal.returns-then-not-well_formed
 unfolding headed_of
-returns-then-not-well_formed c = rw (sym c?.well-formed-2.ensures ∙ c.if-not-well_formed.true)
+returns-then-not-well_formed c = rw (sym c.well_formed-2.ensures ∙ c.if-not-well_formed.true)
 
 pub returns-then-get16-ne1604 : goal.returns-then-get16-ne1604
 unfolding headed_of
-returns-then-get16-ne1604 c = rw (sym c?.well-formed-2.ensures ∙ c.if-not-well_formed.false, ne_eqb _ _ (λ e. c.if-get16-ne1604.true (ap (λ (x : ℕ). x % 2048) c.get16.ensures ∙ e)))
+returns-then-get16-ne1604 c = rw (sym c.well_formed-2.ensures ∙ c.if-not-well_formed.false, ne_eqb _ _ (λ e. c.if-get16-ne1604.true (ap (λ (x : ℕ). x % 2048) c.get16.ensures ∙ e)))
 
 pub returns : goal.returns
 unfolding headed_of
-returns c = rw (sym c?.well-formed-2.ensures ∙ c.if-not-well_formed.false, eq-eqb _ _ (sym (ap (λ (x : ℕ). x % 2048) c.get16.ensures) ∙ c.if-get16-ne1604.false))
+returns c = rw (sym c.well_formed-2.ensures ∙ c.if-not-well_formed.false, eq-eqb _ _ (sym (ap (λ (x : ℕ). x % 2048) c.get16.ensures) ∙ c.if-get16-ne1604.false))

@@ -7,4 +7,4 @@ use borrow.Author.Rules.{rules}
 use Rattle.places.proofs.context_at.Goals as goal
 
 pub returns-else-i-lt4 : goal.returns-else-i-lt4
-returns-else-i-lt4 c = let f = c.four_places.ensures in sym (context_past c.args.t1 c.args.i (omega arith))
+returns-else-i-lt4 c = let f = c.four_places.ensures in sym (context_past c.args.ps c.args.i (omega arith))

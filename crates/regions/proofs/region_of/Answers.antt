@@ -23,7 +23,7 @@ pub loop-left-preserved : goal.loop-left-preserved
 loop-left-preserved c =
     let first = c.loop-left.first in
     let left = c.loop-left.left in
-    let rs = c.args.t1 in
+    let rs = c.args.rs in
     let e = c.end_of.ensures in (
       c.loop-left.invariant.0,
       half_left _ _ first left _ c.loop-left.invariant.1 c.loop-left-test.true _

@@ -18,19 +18,19 @@ returns-then-n c = table_outside _ _ c.if-n.true
 pub loop-i-init : goal.loop-i-init
 unfolding words_below
 loop-i-init c =
-    let inside : (1 ≤ c.args.n) × (c.args.n ≤ 16) = table_inside c.args.t1 _ c.if-n.false in
+    let inside : (1 ≤ c.args.n) × (c.args.n ≤ 16) = table_inside c.args.rs _ c.if-n.false in
     (search rules, inside, search rules, search rules, search rules, search rules)
 
 pub returns-then-not-region_rules : goal.returns-then-not-region_rules
 returns-then-not-region_rules c =
-    let rs = c.args.t1 in
+    let rs = c.args.rs in
     let i = c.loop-i.i in
     table_broken rs _ i c.loop-i-test.true
     (rw (← c.loop-i.invariant.4, ← c.region_rules.ensures) c.if-not-region_rules.true)
 
 pub loop-i-preserved : goal.loop-i-preserved
 loop-i-preserved c =
-    let rs = c.args.t1 in
+    let rs = c.args.rs in
     let i = c.loop-i.i in
     let kept : region_rules rs i ≡ true = rw (← c.loop-i.invariant.4, ← c.region_rules.ensures) c.if-not-region_rules.false in (
       search rules,

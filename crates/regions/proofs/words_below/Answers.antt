@@ -13,7 +13,7 @@ unfolding words_below
 loop-i-init c = search rules
 
 pub loop-i-preserved : goal.loop-i-preserved
-loop-i-preserved c = (search rules, rw c.loop-i.invariant.1 (words_more c.args.t1 c.loop-i.i), search rules)
+loop-i-preserved c = (search rules, rw c.loop-i.invariant.1 (words_more c.args.rs c.loop-i.i), search rules)
 
 pub returns : goal.returns
 returns c =
