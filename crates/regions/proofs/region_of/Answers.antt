@@ -8,6 +8,7 @@ use native.Mathlib.Omega.{arith}
 use Rattle.regions.proofs.InOrder.{at_most_five}
 use Rattle.regions.proofs.Steps.{falls_short, Left, all_left, half_left, on_short, on_long, one_left_lem, all_counted, count_low, compared_is, region_held, region_none}
 use Rattle.regions.proofs.region_of.Goals as goal
+use Rattle.regions.proofs.region_of.Goals.{then-end_of-end, else-end_of-end}
 
 pub loop-left-init : goal.loop-left-init
 loop-left-init c =
@@ -27,7 +28,10 @@ loop-left-preserved c =
     let e = c.end_of.ensures in (
       c.loop-left.invariant.0,
       half_left _ _ first left _ c.loop-left.invariant.1 c.loop-left-test.true _
-          (⊎_elim (λ x. x.1 ∙ on_short rs _ first left _ e x.0.taken) (λ x. x.1 ∙ on_long rs _ first left _ e x.0.left) c.if-end_of-end.branch),
+          (elim c.if-end_of-end.branch [
+            then-end_of-end w ↦ w.first-is ∙ on_short rs _ first left _ e w.if-end_of-end.true
+          | else-end_of-end w ↦ w.first-is ∙ on_long rs _ first left _ e w.if-end_of-end.false
+          ]),
     )
 
 pub returns-then-is_holding : goal.returns-then-is_holding
@@ -37,8 +41,8 @@ returns-then-is_holding c =
     let w = c.loop-left.invariant.1 in
     let k = one_left_lem _ _ _ _ _ w c.loop-left-test.false in
     rw (← c.entries-m.ensures) (
-      region_held a.t1 _ a.a _ end _ k (sym c.is_holding.ensures ∙ c.if-is_holding.true),
-      compared_is a.t1 _ a.a _ end (all_counted _ _ _ _ _ w c.loop-left-test.false),
+      region_held a.rs _ a.a _ end _ k (sym c.is_holding.ensures ∙ c.if-is_holding.true),
+      compared_is a.rs _ a.a _ end (all_counted _ _ _ _ _ w c.loop-left-test.false),
       at_most_five _ _ _,
     )
 
@@ -49,7 +53,7 @@ returns c =
     let w = c.loop-left.invariant.1 in
     let k = one_left_lem _ _ _ _ _ w c.loop-left-test.false in
     rw (← c.entries-m.ensures) (
-      region_none a.t1 _ a.a _ end _ k (sym c.is_holding.ensures ∙ c.if-is_holding.false),
-      compared_is a.t1 _ a.a _ end (all_counted _ _ _ _ _ w c.loop-left-test.false),
+      region_none a.rs _ a.a _ end _ k (sym c.is_holding.ensures ∙ c.if-is_holding.false),
+      compared_is a.rs _ a.a _ end (all_counted _ _ _ _ _ w c.loop-left-test.false),
       at_most_five _ _ _,
     )

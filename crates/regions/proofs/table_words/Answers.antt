@@ -45,4 +45,4 @@ pub returns : goal.returns
 returns c =
     let a = c.args in
     let e : c.loop-i.i ≡ a.n = omega arith in
-    c.loop-i.invariant.2 ∙ rw e (table_kept a.t1 a.n c.loop-i.invariant.1.0 c.loop-i.invariant.1.1 (rw e at c.loop-i.invariant.5))
+    c.loop-i.invariant.2 ∙ rw e (table_kept a.rs a.n c.loop-i.invariant.1.0 c.loop-i.invariant.1.1 (rw e at c.loop-i.invariant.5))
