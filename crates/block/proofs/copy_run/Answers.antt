@@ -1,0 +1,22 @@
+-- `block::copy_run` meets its contract.
+-- Assumes nothing.
+use mathlib.Core.Path.{◌≡◌, sym}
+use Prim.Native.Nat.{◌≤◌, ◌-◌}
+use native.Mathlib.Omega.{arith}
+use lib.ListN.{length, take}
+use lib.Seq.{take_all}
+use Rattle.lists.specs.Splice.{splice}
+use Rattle.lists.proofs.Runs.{splice_none, copy_turn}
+use borrow.Author.Rules.{rules}
+use Rattle.block.proofs.copy_run.Goals as goal
+
+pub loop-i-init : goal.loop-i-init
+loop-i-init c = (search rules, sym (splice_none _ _), search rules)
+
+pub loop-i-preserved : goal.loop-i-preserved
+loop-i-preserved c = (search rules, copy_turn c.args.b.now c.loop-i.b c.args.v.now c.args.at c.loop-i.i (omega arith) (omega arith) c.loop-i.invariant.1, search rules)
+
+pub returns : goal.returns
+returns c =
+    let e = take_all c.loop-i.i c.args.v.now (omega arith) in
+    rw e at c.loop-i.invariant.1

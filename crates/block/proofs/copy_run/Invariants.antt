@@ -1,0 +1,17 @@
+-- `block::copy_run` meets its contract.
+-- Assumes nothing.
+use mathlib.Core.Path.{◌≡◌, sym}
+use Prim.Native.Nat.{◌≤◌, ◌-◌}
+use native.Mathlib.Omega.{arith}
+use lib.ListN.{length, take}
+use lib.Seq.{take_all}
+use Rattle.lists.specs.Splice.{splice}
+use Rattle.lists.proofs.Runs.{splice_none, copy_turn}
+use borrow.Author.Rules.{rules}
+use Rattle.block.proofs.copy_run.Given as goal
+
+abbrev pub invariant-loop-i : goal.invariant-loop-i
+invariant-loop-i l = (l.i ≤ length l.v) × (l.b ≡ splice l.initial.b l.at (take l.i l.v)) × (length l.b ≡ length l.initial.b)
+
+abbrev pub decreases-loop-i : goal.decreases-loop-i
+decreases-loop-i l = length l.v - l.i

@@ -1,0 +1,10 @@
+-- `block::set_word` meets its contract.
+-- Assumes nothing.
+use mathlib.Core.Path.{sym}
+use native.Mathlib.Omega.{arith}
+use lib.Seq.{set_out}
+use borrow.Author.Rules.{rules}
+use Rattle.block.proofs.set_word.Goals as goal
+
+pub returns-else-i-b : goal.returns-else-i-b
+returns-else-i-b c = sym (set_out _ _ _ (omega arith))

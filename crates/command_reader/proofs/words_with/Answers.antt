@@ -1,0 +1,9 @@
+-- `command_reader::words_with` meets its contract.
+-- Assumes nothing.
+use native.Mathlib.Omega.{arith}
+use Rattle.command_reader.proofs.Steps.{with_fields}
+use borrow.Author.Rules.{rules}
+use Rattle.command_reader.proofs.words_with.Goals as goal
+
+pub returns-in-Read : goal.returns-in-Read
+returns-in-Read c = with_fields c.args.p.now _ _ _ c.in-Read.is (c.put_beside.ensures.0 (omega arith))

@@ -1,0 +1,9 @@
+-- `tasks::value_words` meets its contract.
+-- Assumes nothing.
+use native.Mathlib.Omega.{arith}
+use Rattle.tasks.proofs.ValueBytes.{value_as_words}
+use borrow.Author.Rules.{rules}
+use Rattle.tasks.proofs.value_words.Goals as goal
+
+pub returns : goal.returns
+returns c = let a = c.args in value_as_words a.count a.unit a.transaction a.value (omega arith) (omega arith) (omega arith)
