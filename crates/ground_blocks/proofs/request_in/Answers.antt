@@ -1,0 +1,7 @@
+-- `ground_blocks::request_in` meets its contract.
+-- Assumes nothing.
+use borrow.Author.Rules.{rules}
+use Rattle.ground_blocks.proofs.request_in.Goals as goal
+
+pub returns : goal.returns
+returns c = rw (c.size_in-size.ensures, c.word_at.ensures, c.word_at-2.ensures)

@@ -1,0 +1,19 @@
+-- `lent_places::first_idle` meets its contract.
+-- Assumes nothing.
+use Prim.Native.Nat.{◌≤◌, ◌-◌}
+use mathlib.Core.Bool.{false}
+use mathlib.Core.Path.{◌≡◌, refl, sym, ◌∙◌}
+use native.Mathlib.Omega.{arith}
+use borrow.Author.Rules.{rules}
+use Rattle.lists.specs.Below.{any_below}
+use Rattle.rules.specs.States.{context_at}
+use Rattle.rules.specs.Commands.{is_idle, first_idle}
+use Rattle.places.proofs.Steps.{go_on, stop_here, none_left}
+use Rattle.block.specs.Blocks.{places_in}
+use Rattle.lent_places.proofs.first_idle.Given as goal
+
+abbrev pub invariant-loop-i : goal.invariant-loop-i
+invariant-loop-i l = (l.i ≤ 4) × (any_below (λ j. is_idle (context_at (places_in l.ps 0) j)) l.i ≡ false)
+
+abbrev pub decreases-loop-i : goal.decreases-loop-i
+decreases-loop-i l = 4 - l.i

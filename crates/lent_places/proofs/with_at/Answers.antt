@@ -1,0 +1,8 @@
+-- `lent_places::with_at` meets its contract.
+-- Assumes nothing.
+use Rattle.lent_places.proofs.Steps.{number_word}
+use borrow.Author.Rules.{rules}
+use Rattle.lent_places.proofs.with_at.Goals as goal
+
+pub returns : goal.returns
+returns c = number_word c.args.ps.now _ c.requires _ c.word_at.ensures _ _ c.word_at-2.ensures
