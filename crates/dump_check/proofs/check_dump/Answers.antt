@@ -21,7 +21,7 @@ few-packets c = packets_few c.args.bytes.now c.args.lengths.now (fit c)
 long : (c : Else-i-n) → 28 ≤ length c.args.bytes.now
 long c =
     let a = c.args in
-    bytes_long a.bytes.now a.lengths.now (fit (goal.at.NEED c).Else-is_unfit) _ c.sound_packets-i.ensures.0 c.if-n-eq0.false c.if-i-n.false
+    bytes_long a.bytes.now a.lengths.now (sym c.is_unfit.ensures ∙ c.if-is_unfit.false) _ c.sound_packets-i.ensures.0 c.if-n-eq0.false c.if-i-n.false
 
 -- the pieces due
 due : (c : After-read32)
@@ -36,8 +36,8 @@ number : (c : After-first_unmarked-k)
     (k < m → 131072 + k ≡ check_dump a.bytes.now a.lengths.now) × (m ≤ k → 0 ≡ check_dump a.bytes.now a.lengths.now)
 number c =
     let a = c.args in
-    number_marked a.bytes.now a.lengths.now (fit (goal.at.NEED c).Else-is_unfit) _ c.sound_packets-i.ensures.0 c.if-n-eq0.false c.if-i-n.false
-    _ (due (goal.at.NEED c).After-read32) c.sound_packets-i.new.1.1.0 c.sound_packets-i.ensures.1 _ c.first_unmarked-k.ensures
+    number_marked a.bytes.now a.lengths.now (sym c.is_unfit.ensures ∙ c.if-is_unfit.false) _ c.sound_packets-i.ensures.0 c.if-n-eq0.false c.if-i-n.false
+    _ (ap (λ x. (x + 1015) / 1016) c.read32.ensures) c.sound_packets-i.new.seen c.sound_packets-i.ensures.1 _ c.first_unmarked-k.ensures
 
 pub returns-then-is_unfit : goal.returns-then-is_unfit
 returns-then-is_unfit c =

@@ -1,6 +1,11 @@
 -- `ground_blocks::command_in` meets its contract.
 -- Assumes nothing.
 use borrow.Author.Tests.{ne_eqb}
+use mathlib.Core.Path.{◌≡◌}
+use mathlib.Core.Bool.{false}
+use Prim.Native.Nat.{ℕ}
+use native.Mathlib.Omega.{arith}
+use lib.Dec.{eqb}
 use Rattle.ground_blocks.specs.Fields.{command_in}
 use borrow.Author.Rules.{rules}
 use Rattle.ground_blocks.proofs.command_in.Goals as goal
@@ -32,6 +37,5 @@ returns-in-9 c = rw (← c.word_at-code.ensures, c.in-9.is, c.symbol_request_in.
 pub returns-in_default : goal.returns-in_default
 unfolding command_in
 returns-in_default c =
-    let w = c.word_at-code.ensures in
-    let r = c.in_default.rest in
-    rw (← w, ne_eqb _ 0 r.0.0.0.0.0.1, ne_eqb _ 1 r.0.0.0.0.1, ne_eqb _ 4 r.0.0.0.1, ne_eqb _ 7 r.0.0.1, ne_eqb _ 8 r.0.1, ne_eqb _ 9 r.1)
+    let other : (n : ℕ) → (c.word_at-code.result ≡ n → ⊥) → eqb c.word_at-code.result n ≡ false = λ n r. ne_eqb _ n r in
+    rw (← c.word_at-code.ensures, other 0 (λ e. omega arith), other 1 (λ e. omega arith), other 4 (λ e. omega arith), other 7 (λ e. omega arith), other 8 (λ e. omega arith), other 9 (λ e. omega arith))

@@ -11,6 +11,7 @@ use Rattle.regions.proofs.Steps.{falls_short, Left, all_left, half_left, on_shor
 use Rattle.block.specs.Blocks.{regions_in}
 use Rattle.lent_regions.proofs.Steps.{end_is, held_at}
 use Rattle.lent_regions.proofs.region_of.Goals as goal
+use Rattle.lent_regions.proofs.region_of.Goals.{then-end_of-end, else-end_of-end}
 
 pub loop-left-init : goal.loop-left-init
 loop-left-init c =
@@ -32,7 +33,10 @@ loop-left-preserved c =
     let e = end_is w (middle first left) low _ _ refl refl c.end_of.ensures in (
       c.loop-left.invariant.0,
       half_left _ _ first left _ c.loop-left.invariant.1 c.loop-left-test.true _
-          (⊎_elim (λ x. x.1 ∙ on_short (regions_in w 0) _ first left _ e x.0.taken) (λ x. x.1 ∙ on_long (regions_in w 0) _ first left _ e x.0.left) c.if-end_of-end.branch),
+          (elim c.if-end_of-end.branch [
+            then-end_of-end x ↦ x.first-is ∙ on_short (regions_in w 0) _ first left _ e x.if-end_of-end.true
+          | else-end_of-end x ↦ x.first-is ∙ on_long (regions_in w 0) _ first left _ e x.if-end_of-end.false
+          ]),
     )
 
 pub returns-then-is_holding : goal.returns-then-is_holding

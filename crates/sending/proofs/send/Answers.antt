@@ -10,4 +10,4 @@ pub returns-in-EndsOutside : goal.returns-in-EndsOutside
 returns-in-EndsOutside c = rw c.in-EndsOutside.is c.nothing_to_send-in-EndsOutside.ensures
 
 pub returns-in-At : goal.returns-in-At
-returns-in-At c = rw (c.enum_told-in-At-1.given.1, ← c.address_after-here.ensures, ← c.packet_words-words.ensures, ← c.word_after-from.ensures, ← c.after_packet-after.ensures)
+returns-in-At c = rw (c.in-At.is, ← c.address_after-here.ensures, ← c.packet_words-words.ensures, ← c.word_after-from.ensures, ← c.after_packet-after.ensures)
