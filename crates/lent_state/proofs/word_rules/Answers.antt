@@ -1,0 +1,16 @@
+-- `lent_state::word_rules` meets its contract.
+-- Assumes nothing.
+use borrow.Author.Rules.{rules}
+use Rattle.lent_state.proofs.word_rules.Goals as goal
+
+pub returns : goal.returns
+returns c =
+    rw (
+      c.word_at.ensures,
+      c.word_at-2.ensures,
+      c.word_at-3.ensures,
+      c.word_at-4.ensures,
+      c.word_at-5.ensures,
+      c.word_at-6.ensures,
+      c.word_at-7.ensures,
+    )
