@@ -1,10 +1,10 @@
 -- Each number of a pool's walk exactly in its case.
 -- Assumes nothing.
-use mathlib.Core.Path.{◌≡◌, refl, sym, ap, ◌∙◌}
+use mathlib.Core.Path.{◌≡◌, refl, sym, ◌∙◌}
 use mathlib.Core.List.{List}
 use Prim.Native.Nat.{ℕ}
 use native.Mathlib.Omega.{arith}
-use Rattle.rules.specs.Pools.{Block, Walk, damaged, whole, blocks_of, Tiles}
+use Rattle.rules.specs.Pools.{Walk, damaged, whole, blocks_of}
 use Rattle.rules.proofs.Pools.{tiles_blocks, blocks_tiles}
 use Rattle.pool.specs.Answers.{walked_of, WalkedNumbers}
 

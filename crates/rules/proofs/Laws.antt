@@ -10,7 +10,7 @@ use native.Mathlib.Nat.{mod-add-mod, mul-div_cancel_left}
 use native.Mathlib.Decide.{ℕ_discrete}
 use lib.Dec.{eqb}
 use lib.ListN.{length}
-use borrow.Author.Tests.{eqb-false, ne_eqb, eq-eqb, lt-ltb, le-ltb}
+use borrow.Author.Tests.{eqb-false, ne_eqb, eq-eqb}
 use Rattle.lists.proofs.Tests.{either, by_lt, by_order}
 use Rattle.rules.specs.declared.Place.{Place}
 use Rattle.rules.specs.declared.ActiveDump.{ActiveDump}

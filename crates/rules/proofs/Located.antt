@@ -1,12 +1,12 @@
 -- Where a range of a good state's table lies in the image, word by word.
 -- Assumes nothing.
-use mathlib.Core.Path.{◌≡◌, refl, ap, ◌∙◌}
+use mathlib.Core.Path.{◌≡◌, refl, ◌∙◌}
 use mathlib.Core.Bool.{Bool, true}
 use mathlib.Core.List.{List, [], ◌∷◌}
-use Prim.Native.Nat.{ℕ, zero, suc, ◌+◌, ◌-◌, ◌/◌, ◌%◌, ◌≤◌, ◌<◌}
+use Prim.Native.Nat.{ℕ, zero, suc, ◌+◌, ◌-◌, ◌/◌, ◌%◌, ◌≤◌}
 use native.Mathlib.Omega.{arith}
 use lib.ListN.{take}
-use Rattle.rules.specs.Regions.{table_rules, start_of, range_at, any_right, words_below, image_index, index_in}
+use Rattle.rules.specs.Regions.{table_rules, start_of, range_at, any_right, words_below, image_index}
 use Rattle.rules.specs.States.{good_state}
 use Rattle.rules.specs.GoodWhen.{LiesIn, words_in, first_word, Lies}
 use Rattle.rules.specs.declared.Range.{Range}

@@ -1,28 +1,19 @@
 -- Demand 2: what a slot call answers and does.
 -- Assumes nothing.
-use mathlib.Core.Path.{◌≡◌, refl, ap, ◌∙◌}
-use mathlib.Core.Logic.{◌≢◌}
-use mathlib.Core.Bool.{Bool, true, false}
-use mathlib.Core.List.{List}
-use Prim.Native.Nat.{ℕ, ◌+◌, ◌*◌, ◌-◌, ◌%◌, ◌<◌, ◌≤◌}
-use native.Mathlib.Nat.{mod-lt}
+use mathlib.Core.Path.{◌≡◌, refl, ◌∙◌}
+use mathlib.Core.Bool.{true, false}
+use Prim.Native.Nat.{◌+◌, ◌*◌, ◌≤◌}
 use native.Mathlib.Omega.{arith}
-use lib.ListN.{length, length-take, length-set}
+use lib.ListN.{length, length-set}
 use borrow.Author.Tests.{eq-eqb, le-ltb}
-use Rattle.lists.specs.Below.{first_below}
 use Rattle.lists.proofs.Tests.{either, contra}
-use Rattle.lists.proofs.Below.{any_of, any_at, first_found, first_before}
 use Rattle.lists.proofs.Splice.{splice_front, splice_rest}
-use Rattle.wire.proofs.Lengths.{word_bytes_length}
 use Rattle.rules.specs.Regions.{image_length}
-use Rattle.rules.specs.States.{piece_words, context_at, good_state}
+use Rattle.rules.specs.States.{good_state}
 use Rattle.rules.specs.Results.{lowest, lent_rows, answer_number}
-use Rattle.rules.specs.Slots.{SlotArgs, is_busy, any_busy, longest_packet, slot_rows, place_after, next_place, next_words, packet_bytes, after_packet, serve, slot_call}
+use Rattle.rules.specs.Slots.{SlotArgs, any_busy, longest_packet, slot_rows, place_after, next_words, packet_bytes, after_packet, serve, slot_call}
 use Rattle.rules.specs.Demand2.{SlotDone, SlotExact}
-use Rattle.rules.specs.declared.ActiveDump.{ActiveDump}
-use Rattle.rules.specs.declared.Context.{Context}
-use Rattle.rules.specs.declared.Context.TheVariants.{Idle, Busy}
-use Rattle.rules.specs.declared.Place.{Place}
+use Rattle.rules.specs.declared.Context.TheVariants.{Busy}
 use Rattle.rules.specs.declared.State.{State}
 use Rattle.rules.proofs.AfterPacket.{sent_more, sent_all}
 use Rattle.rules.proofs.Fits.{packet_length_lem, next_most}

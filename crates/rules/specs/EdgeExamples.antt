@@ -1,6 +1,6 @@
 -- EXAMPLES WHERE RULES MEET: two faults in one packet, what stays of lent buffers, counts and states, and cases that the paper allows in so many words. On the
 -- packets of NumberExamples; the box is that of E1: unit 2, one region at 1000 hex of four words, both rights.
-use Rattle.std.specs.Prelude.{◌≡◌, true, false, List, [], ◌∷◌, ◌++◌, map, ℕ, set, take, drop, replicate}
+use Rattle.std.specs.Prelude.{◌≡◌, false, List, [], ◌∷◌, ◌++◌, map, ℕ, set, take, drop, replicate}
 use Rattle.rules.specs.Regions.{no_range}
 use Rattle.rules.specs.States.{start_up}
 use Rattle.rules.specs.Packets.{command_bytes}

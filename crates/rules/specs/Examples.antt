@@ -1,6 +1,6 @@
 -- Paper 01, "Checked examples", E1 to E12, as paper 02 (A4, A5) leaves them: computed with the definitions. Fresh states, unit 2; unless said otherwise no pools and one
 -- region at 1000 hex of four words, both rights.
-use Rattle.std.specs.Prelude.{◌≡◌, true, List, [], ◌∷◌, ◌++◌, map, ℕ, zero, suc, ◌+◌, ◌*◌, length, drop, replicate}
+use Rattle.std.specs.Prelude.{◌≡◌, true, List, [], ◌∷◌, ◌++◌, map, ℕ, zero, suc, ◌*◌, length, drop, replicate}
 use Rattle.rules.specs.Regions.{no_range}
 use Rattle.rules.specs.States.{start_up}
 use Rattle.rules.specs.Packets.{command_bytes}

@@ -1,5 +1,5 @@
 -- Paper 01, "Ground reader and writer", and paper 02, A2: the command writer, the command reader and the dump packet reader.
-use Rattle.std.specs.Prelude.{Bool, true, false, ◌&&◌, not, cond, List, [], ◌∷◌, ◌++◌, ℕ, ◌+◌, ◌*◌, ◌-◌, ◌/◌, ◌%◌, min, leb, ltb, eqb, length, drop, replicate}
+use Rattle.std.specs.Prelude.{Bool, false, ◌&&◌, not, List, [], ◌∷◌, ◌++◌, ℕ, ◌+◌, ◌*◌, ◌-◌, ◌/◌, ◌%◌, min, leb, ltb, eqb, length, drop, replicate}
 use Rattle.lists.specs.Splice.{splice}
 use Rattle.wire.specs.Bytes.{be_at}
 use Rattle.rules.specs.Regions.{start_of, end_of, aligned}

@@ -1,7 +1,7 @@
 -- Paper 01, "Command packets": the primary header of CCSDS 133.0-B, the check byte, and the command layouts;
 -- paper 02, A2: those of codes 8 and 9.
 -- A byte past a packet's end reads as 0: no test that decides anything rests on one, since numbers 4 and 7 come first.
-use Rattle.std.specs.Prelude.{Bool, true, false, ◌&&◌, cond, List, [], ◌∷◌, ◌++◌, ℕ, ◌+◌, ◌*◌, ◌-◌, ◌/◌, ◌%◌, leb, eqb, length, get_or, set, take, drop, replicate}
+use Rattle.std.specs.Prelude.{Bool, true, ◌&&◌, cond, List, [], ◌∷◌, ◌++◌, ℕ, ◌+◌, ◌*◌, ◌-◌, ◌/◌, ◌%◌, leb, eqb, length, get_or, set, take, drop, replicate}
 use Rattle.std.specs.Int.Bits.{bit_xor}
 use Rattle.wire.specs.Bytes.{be, be_at, word_bytes, words_at}
 use Rattle.wire.specs.Xor.{xor_all}

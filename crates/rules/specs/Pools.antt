@@ -1,5 +1,5 @@
 -- Paper 01, "What each command does", and paper 02, A4: the blocks of a pool, their figures, and the reply.
-use Rattle.std.specs.Prelude.{◌≡◌, Bool, true, false, cond, not, List, [], ◌∷◌, ◌++◌, ℕ, zero, suc, ◌+◌, ◌*◌, ◌-◌, ◌%◌, max, leb, eqb, length}
+use Rattle.std.specs.Prelude.{◌≡◌, Bool, true, false, cond, not, List, [], ◌∷◌, ◌++◌, ℕ, zero, suc, ◌+◌, ◌-◌, ◌%◌, max, leb, eqb, length}
 use Rattle.wire.specs.Bytes.{be}
 use Rattle.rules.specs.Packets.{primary_header, identity}
 

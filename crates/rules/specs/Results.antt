@@ -1,5 +1,5 @@
 -- Paper 01, "Result numbers": the number of each refusal, which refusals are counted, and the lowest number that applies.
-use Rattle.std.specs.Prelude.{Bool, true, false, cond, not, List, [], ◌∷◌, ℕ, ◌+◌, ◌%◌, ltb, eqb, length}
+use Rattle.std.specs.Prelude.{Bool, true, false, cond, not, List, [], ◌∷◌, ℕ, ltb, eqb, length}
 use Rattle.rules.specs.Regions.{image_length}
 use Rattle.rules.specs.States.{good_state}
 use Rattle.rules.specs.declared.State.{State}

@@ -4,7 +4,6 @@ use Prim.Native.Nat.{◌+◌, ◌*◌, ◌-◌}
 use native.Mathlib.Omega.{arith}
 use Rattle.wire.specs.Bytes.{word_bytes}
 use Rattle.wire.proofs.Numbers.{two_halves}
-use borrow.Author.Rules.{rules}
 use Rattle.bulk.proofs.head_words.Goals as goal
 
 pub returns : goal.returns

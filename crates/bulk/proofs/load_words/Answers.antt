@@ -1,7 +1,6 @@
 -- `bulk::load_words` meets its contract.
 -- Assumes nothing.
 use native.Mathlib.Omega.{arith}
-use borrow.Author.Rules.{rules}
 use Rattle.bulk.proofs.load_words.Goals as goal
 
 pub returns : goal.returns

@@ -2,7 +2,6 @@
 -- Assumes nothing.
 use mathlib.Core.Path.{refl}
 use native.Mathlib.Omega.{arith}
-use borrow.Author.Rules.{rules}
 use Rattle.bulk.proofs.name_words.Goals as goal
 
 pub returns-then-words-lt12 : goal.returns-then-words-lt12

@@ -2,7 +2,6 @@
 -- Assumes nothing.
 use mathlib.Core.Path.{refl}
 use native.Mathlib.Omega.{arith}
-use borrow.Author.Rules.{rules}
 use Rattle.bulk.proofs.Packet.{head_then_words, test_fits, test_fails}
 use Rattle.bulk.proofs.put_packet.Goals as goal
 

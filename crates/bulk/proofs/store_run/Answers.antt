@@ -1,10 +1,9 @@
 -- `bulk::store_run` meets its contract.
 -- Assumes nothing.
 use mathlib.Core.Path.{◌≡◌, sym, ◌∙◌}
-use Prim.Native.Nat.{◌≤◌, ◌<◌, ◌-◌}
+use Prim.Native.Nat.{◌<◌}
 use native.Mathlib.Omega.{arith}
-use lib.ListN.{length, take, get_or}
-use Rattle.lists.specs.Splice.{splice}
+use lib.ListN.{length, get_or}
 use Rattle.lists.proofs.Runs.{splice_none, copy_turn}
 use Rattle.wire.specs.Bytes.{words_at}
 use Rattle.wire.proofs.Words.{words_at_length, words_at_word}

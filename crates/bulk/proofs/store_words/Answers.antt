@@ -2,9 +2,7 @@
 -- Assumes nothing.
 use mathlib.Core.Path.{refl}
 use native.Mathlib.Omega.{arith}
-use borrow.Author.Tests.{not-true, not-false}
 use Rattle.bulk.proofs.Words.{first_words}
-use borrow.Author.Rules.{rules}
 use Rattle.bulk.proofs.store_words.Goals as goal
 
 pub returns-then-n-gt11 : goal.returns-then-n-gt11
@@ -17,8 +15,7 @@ pub store_run-requires : goal.store_run-requires
 store_run-requires c = (omega arith, c.has_words.ensures.0 c.if-not-has_words.false)
 
 pub returns : goal.returns
-returns c =
-    (
-      λ h k. rw first_words c.store_run.ensures,
-      λ n. absurd (n (omega arith) (c.has_words.ensures.0 c.if-not-has_words.false)),
-    )
+returns c = (
+  λ h k. rw first_words c.store_run.ensures,
+  λ n. absurd (n (omega arith) (c.has_words.ensures.0 c.if-not-has_words.false)),
+)

@@ -3,8 +3,6 @@
 use mathlib.Core.Path.{◌≡◌, refl}
 use Prim.Native.Nat.{◌+◌, ◌-◌}
 use native.Mathlib.Omega.{arith}
-use borrow.Author.Tests.{not-true, not-false}
-use borrow.Author.Rules.{rules}
 use Rattle.bulk.proofs.words_at.Goals as goal
 
 pub returns-then-not-has_words : goal.returns-then-not-has_words

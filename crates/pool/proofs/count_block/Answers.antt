@@ -2,11 +2,9 @@
 -- Assumes nothing.
 use mathlib.Core.Path.{◌≡◌}
 use mathlib.Core.Bool.{cond, not}
-use mathlib.Core.Logic.{⊎_elim}
 use Prim.Native.Nat.{◌%◌, max}
 use native.Mathlib.Omega.{arith}
 use lib.Dec.{leb}
-use borrow.Author.Rules.{rules}
 use Rattle.pool.specs.Answers.{tallied}
 use Rattle.pool.proofs.Blocks.{same_tally}
 use Rattle.pool.proofs.count_block.Goals as goal

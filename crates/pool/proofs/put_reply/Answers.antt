@@ -3,7 +3,6 @@
 use native.Mathlib.Omega.{arith}
 use mathlib.Core.Path.{ap, ◌∙◌}
 use Rattle.lists.specs.Splice.{splice}
-use borrow.Author.Rules.{rules}
 use Rattle.pool.proofs.put_reply.Goals as goal
 
 pub returns : goal.returns

@@ -3,7 +3,6 @@
 use native.Mathlib.Omega.{arith}
 use Prim.Native.Nat.{◌%◌}
 use Rattle.pool.proofs.ReplyBytes.{reply_as_words}
-use borrow.Author.Rules.{rules}
 use Rattle.pool.proofs.reply_words.Goals as goal
 
 pub returns : goal.returns

@@ -1,13 +1,11 @@
 -- `pool::walk_pool` meets its contract.
 -- Assumes nothing.
 use borrow.Author.Rules.{rules}
-use mathlib.Core.Path.{◌≡◌, sym, ◌∙◌}
-use Prim.Native.Nat.{◌-◌, ◌≤◌}
+use mathlib.Core.Path.{sym, ◌∙◌}
 use native.Mathlib.Omega.{arith}
-use lib.ListN.{length, drop, get_or}
-use Rattle.rules.specs.Pools.{block_of, blocks_from, blocks_of}
-use Rattle.pool.specs.Answers.{walked_of}
-use Rattle.pool.proofs.Blocks.{told, told_next, tallied_words, tallied_blocks, joined, joined_start, joined_end, joined_zero, joined_out, joined_next}
+use lib.ListN.{get_or}
+use Rattle.rules.specs.Pools.{block_of, blocks_of}
+use Rattle.pool.proofs.Blocks.{told, told_next, tallied_words, tallied_blocks, joined_start, joined_end, joined_zero, joined_out, joined_next}
 use Rattle.pool.proofs.walk_pool.Goals as goal
 
 pub loop-at-init : goal.loop-at-init
