@@ -1,6 +1,5 @@
 -- `packet::end_is_zero` meets its contract.
 -- Assumes nothing.
-use borrow.Author.Rules.{rules}
 use Rattle.packet.proofs.end_is_zero.Goals as goal
 
 pub returns : goal.returns

@@ -1,7 +1,6 @@
 -- `packet::field_rules` meets its contract.
 -- Assumes nothing.
 use Rattle.rules.specs.Packets.{field_rules}
-use borrow.Author.Rules.{rules}
 use Rattle.packet.proofs.field_rules.Goals as goal
 
 pub returns-in-Dump : goal.returns-in-Dump

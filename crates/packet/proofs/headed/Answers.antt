@@ -2,9 +2,8 @@
 -- Assumes nothing.
 use Prim.Native.Nat.{ℕ, ◌%◌}
 use mathlib.Core.Path.{sym, ap, ◌∙◌}
-use borrow.Author.Tests.{eq-eqb, ne_eqb, not-true, not-false}
+use borrow.Author.Tests.{eq-eqb, ne_eqb}
 use Rattle.packet.specs.Frame.{headed_of}
-use borrow.Author.Rules.{rules}
 use Rattle.packet.proofs.headed.Goals as goal
 
 pub returns-then-not-well_formed : goal.returns-then-not-well_formed

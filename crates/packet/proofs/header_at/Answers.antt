@@ -1,6 +1,5 @@
 -- `packet::header_at` meets its contract.
 -- Assumes nothing.
-use borrow.Author.Rules.{rules}
 use Rattle.packet.proofs.header_at.Goals as goal
 
 pub returns : goal.returns

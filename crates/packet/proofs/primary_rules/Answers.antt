@@ -2,7 +2,6 @@
 -- Assumes nothing.
 use Rattle.wire.specs.Bytes.{AreBytes}
 use Rattle.packet.proofs.Header.{no_header, version_by_word, type_by_word, second_by_word, flags_by_word}
-use borrow.Author.Rules.{rules}
 use Rattle.packet.proofs.primary_rules.Goals as goal
 
 pub returns-then-p-lt6 : goal.returns-then-p-lt6

@@ -1,6 +1,5 @@
 -- `packet::symbol_request_in` meets its contract.
 -- Assumes nothing.
-use borrow.Author.Rules.{rules}
 use Rattle.packet.proofs.symbol_request_in.Goals as goal
 
 pub returns : goal.returns

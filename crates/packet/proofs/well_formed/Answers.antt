@@ -1,7 +1,6 @@
 -- `packet::well_formed` meets its contract.
 -- Assumes nothing.
 use Rattle.packet.proofs.Formed.{too_short, header_wrong, header_right}
-use borrow.Author.Rules.{rules}
 use Rattle.packet.proofs.well_formed.Goals as goal
 
 pub returns-then-p-lt8 : goal.returns-then-p-lt8

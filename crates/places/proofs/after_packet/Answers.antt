@@ -2,7 +2,6 @@
 -- Assumes nothing.
 use mathlib.Core.Path.{sym}
 use Rattle.rules.proofs.AfterPacket.{sent_more, sent_all}
-use borrow.Author.Rules.{rules}
 use Rattle.places.proofs.after_packet.Goals as goal
 
 pub returns-then-sent-range : goal.returns-then-sent-range

@@ -1,6 +1,5 @@
 -- `places::busy_with` meets its contract.
 -- Assumes nothing.
-use borrow.Author.Rules.{rules}
 use Rattle.places.proofs.busy_with.Goals as goal
 
 pub returns-in-Busy : goal.returns-in-Busy

@@ -3,7 +3,6 @@
 use native.Mathlib.Omega.{arith}
 use mathlib.Core.Path.{sym}
 use Rattle.rules.proofs.Good.{context_past}
-use borrow.Author.Rules.{rules}
 use Rattle.places.proofs.context_at.Goals as goal
 
 pub returns-else-i-lt4 : goal.returns-else-i-lt4

@@ -1,13 +1,8 @@
 -- `places::first_idle` meets its contract.
 -- Assumes nothing.
-use Prim.Native.Nat.{◌≤◌, ◌-◌}
-use mathlib.Core.Bool.{false}
-use mathlib.Core.Path.{◌≡◌, refl, sym, ◌∙◌}
+use mathlib.Core.Path.{refl, sym, ◌∙◌}
 use native.Mathlib.Omega.{arith}
-use borrow.Author.Rules.{rules}
-use Rattle.lists.specs.Below.{any_below}
-use Rattle.rules.specs.States.{context_at}
-use Rattle.rules.specs.Commands.{is_idle, first_idle}
+use Rattle.rules.specs.Commands.{first_idle}
 use Rattle.places.proofs.Steps.{go_on, stop_here, none_left}
 use Rattle.places.proofs.first_idle.Goals as goal
 

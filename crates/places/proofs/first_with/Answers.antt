@@ -1,12 +1,7 @@
 -- `places::first_with` meets its contract.
 -- Assumes nothing.
-use Prim.Native.Nat.{◌≤◌, ◌-◌}
-use mathlib.Core.Bool.{false}
-use mathlib.Core.Path.{◌≡◌, refl, sym, ◌∙◌}
+use mathlib.Core.Path.{refl, sym, ◌∙◌}
 use native.Mathlib.Omega.{arith}
-use borrow.Author.Rules.{rules}
-use Rattle.lists.specs.Below.{any_below}
-use Rattle.rules.specs.States.{context_at, busy_with}
 use Rattle.places.specs.Turns.{first_within}
 use Rattle.places.proofs.Steps.{go_on, stop_here, none_left}
 use Rattle.places.proofs.first_with.Goals as goal

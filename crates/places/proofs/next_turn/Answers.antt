@@ -1,7 +1,6 @@
 -- `places::next_turn` meets its contract.
 -- Assumes nothing.
 use Rattle.places.specs.Turns.{next_turn}
-use borrow.Author.Rules.{rules}
 use Rattle.places.proofs.next_turn.Goals as goal
 
 pub returns : goal.returns

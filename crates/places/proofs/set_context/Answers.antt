@@ -3,7 +3,6 @@
 use native.Mathlib.Omega.{arith}
 use mathlib.Core.Path.{sym}
 use lib.Seq.{set_out}
-use borrow.Author.Rules.{rules}
 use Rattle.places.proofs.set_context.Goals as goal
 
 pub returns-else-i-lt4 : goal.returns-else-i-lt4

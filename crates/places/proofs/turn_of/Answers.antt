@@ -1,6 +1,5 @@
 -- `places::turn_of` meets its contract.
 -- Assumes nothing.
-use borrow.Author.Rules.{rules}
 use Rattle.places.proofs.turn_of.Goals as goal
 
 pub returns-in-Busy : goal.returns-in-Busy

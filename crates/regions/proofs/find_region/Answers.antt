@@ -1,6 +1,5 @@
 -- `regions::find_region` meets its contract.
 -- Assumes nothing.
-use borrow.Author.Rules.{rules}
 use Rattle.regions.proofs.Answers.{found_exactly}
 use Rattle.regions.proofs.Steps.{found_none, found_short, found_at}
 use Rattle.regions.proofs.find_region.Goals as goal

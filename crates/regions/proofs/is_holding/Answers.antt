@@ -1,7 +1,6 @@
 -- `regions::is_holding` meets its contract.
 -- Assumes nothing.
 use mathlib.Core.Path.{refl}
-use borrow.Author.Rules.{rules}
 use Rattle.regions.proofs.is_holding.Goals as goal
 
 pub returns : goal.returns

@@ -2,11 +2,10 @@
 -- Assumes nothing.
 use borrow.Author.Rules.{rules}
 use mathlib.Core.Path.{sym, ◌∙◌}
-use mathlib.Core.Logic.{⊎_elim}
 use Prim.Native.Nat.{◌≤◌}
 use native.Mathlib.Omega.{arith}
 use Rattle.regions.proofs.InOrder.{at_most_five}
-use Rattle.regions.proofs.Steps.{falls_short, Left, all_left, half_left, on_short, on_long, one_left_lem, all_counted, count_low, compared_is, region_held, region_none}
+use Rattle.regions.proofs.Steps.{all_left, half_left, on_short, on_long, one_left_lem, all_counted, count_low, compared_is, region_held, region_none}
 use Rattle.regions.proofs.region_of.Goals as goal
 use Rattle.regions.proofs.region_of.Goals.{then-end_of-end, else-end_of-end}
 
@@ -29,8 +28,8 @@ loop-left-preserved c =
       c.loop-left.invariant.0,
       half_left _ _ first left _ c.loop-left.invariant.1 c.loop-left-test.true _
           (elim c.if-end_of-end.branch [
-            then-end_of-end w ↦ w.first-is ∙ on_short rs _ first left _ e w.if-end_of-end.true
-          | else-end_of-end w ↦ w.first-is ∙ on_long rs _ first left _ e w.if-end_of-end.false
+            | then-end_of-end w ↦ w.first-is ∙ on_short rs _ first left _ e w.if-end_of-end.true
+            | else-end_of-end w ↦ w.first-is ∙ on_long rs _ first left _ e w.if-end_of-end.false
           ]),
     )
 

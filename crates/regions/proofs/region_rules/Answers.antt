@@ -1,6 +1,5 @@
 -- `regions::region_rules` meets its contract.
 -- Assumes nothing.
-use borrow.Author.Rules.{rules}
 use Rattle.regions.proofs.region_rules.Goals as goal
 
 pub returns : goal.returns

@@ -2,12 +2,10 @@
 -- Assumes nothing.
 use mathlib.Core.Path.{◌≡◌, ◌∙◌}
 use mathlib.Core.Bool.{true}
-use Prim.Native.Nat.{◌*◌, ◌-◌, ◌≤◌}
+use Prim.Native.Nat.{◌≤◌}
 use native.Mathlib.Omega.{arith}
-use borrow.Author.Tests.{not-true, not-false}
-use Rattle.lists.specs.Below.{all_below}
 use Rattle.lists.proofs.Below.{all_more}
-use Rattle.rules.specs.Regions.{end_before, region_rules, words_below}
+use Rattle.rules.specs.Regions.{region_rules, words_below}
 use Rattle.regions.proofs.Steps.{table_outside, table_inside, table_broken, table_kept, end_more, words_more}
 use borrow.Author.Rules.{rules}
 use Rattle.regions.proofs.table_words.Goals as goal

@@ -1,7 +1,6 @@
 -- `regions::word_index` meets its contract.
 -- Assumes nothing.
 use borrow.Author.Tests.{lt-ltb, le-ltb}
-use borrow.Author.Rules.{rules}
 use Rattle.regions.proofs.Answers.{indexed}
 use Rattle.regions.proofs.word_index.Goals as goal
 

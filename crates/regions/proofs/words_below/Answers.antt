@@ -1,7 +1,6 @@
 -- `regions::words_below` meets its contract.
 -- Assumes nothing.
 use mathlib.Core.Path.{◌≡◌}
-use Prim.Native.Nat.{◌*◌, ◌-◌, ◌≤◌}
 use native.Mathlib.Omega.{arith}
 use Rattle.rules.specs.Regions.{words_below}
 use Rattle.regions.proofs.Steps.{words_more}

@@ -2,10 +2,7 @@
 -- Assumes nothing.
 use mathlib.Core.Path.{◌≡◌}
 use Prim.Native.Nat.{◌*◌, ◌-◌, ◌≤◌}
-use native.Mathlib.Omega.{arith}
 use Rattle.rules.specs.Regions.{words_below}
-use Rattle.regions.proofs.Steps.{words_more}
-use borrow.Author.Rules.{rules}
 use Rattle.regions.proofs.words_below.Given as goal
 
 abbrev pub invariant-loop-i : goal.invariant-loop-i

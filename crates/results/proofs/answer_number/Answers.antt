@@ -1,6 +1,5 @@
 -- `results::answer_number` meets its contract.
 -- Assumes nothing.
-use borrow.Author.Rules.{rules}
 use Rattle.results.proofs.answer_number.Goals as goal
 
 pub returns-in-Refused : goal.returns-in-Refused

@@ -1,6 +1,5 @@
 -- `results::packet_number` meets its contract.
 -- Assumes nothing.
-use borrow.Author.Rules.{rules}
 use Rattle.results.proofs.packet_number.Goals as goal
 
 pub returns-in-NoPacket : goal.returns-in-NoPacket

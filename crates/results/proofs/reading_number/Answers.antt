@@ -1,6 +1,5 @@
 -- `results::reading_number` meets its contract.
 -- Assumes nothing.
-use borrow.Author.Rules.{rules}
 use Rattle.results.proofs.reading_number.Goals as goal
 
 pub returns-in-Unread : goal.returns-in-Unread

@@ -1,6 +1,5 @@
 -- `results::refusal_number` meets its contract.
 -- Assumes nothing.
-use borrow.Author.Rules.{rules}
 use Rattle.results.proofs.refusal_number.Goals as goal
 
 pub returns-in-BadState : goal.returns-in-BadState

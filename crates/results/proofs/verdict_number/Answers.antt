@@ -1,6 +1,5 @@
 -- `results::verdict_number` meets its contract.
 -- Assumes nothing.
-use borrow.Author.Rules.{rules}
 use Rattle.results.proofs.verdict_number.Goals as goal
 
 pub returns-in-Rejected : goal.returns-in-Rejected
