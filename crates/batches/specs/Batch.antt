@@ -1,5 +1,5 @@
 -- Paper 02, A1: up to 64 commands in one call, which are lent one symbol table (A2). Said once for every single call: the command call on a State, and the one from C on a block.
-use Rattle.std.specs.Prelude.{◌≡◌, Bool, true, false, not, ◌||◌, cond, List, [], ◌∷◌, ◌++◌, ℕ, zero, suc, ◌+◌, ◌*◌, min, leb, ltb, eqb, length, get_or, take, drop}
+use Rattle.std.specs.Prelude.{◌≡◌, Bool, not, ◌||◌, cond, List, [], ◌∷◌, ◌++◌, ℕ, zero, suc, ◌+◌, ◌*◌, min, leb, ltb, eqb, length, get_or, take, drop}
 use Rattle.lists.specs.Splice.{splice}
 use Rattle.rules.specs.Commands.{CommandArgs, command_call}
 use Rattle.rules.specs.Results.{answer_number, answer_length}

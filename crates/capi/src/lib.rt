@@ -1,4 +1,4 @@
-// The C interface: the calls of the service over blocks of words that a C caller lends. Its header is c/leatgarnet.h.
+// The C interface: the calls of the service over blocks of words that a C caller lends. capi_c exports them; the header is c/leatgarnet.h.
 #![tactic(auto)]
 
 ghost use Rattle.std.specs.Prelude.{◌≡◌, length};
@@ -25,8 +25,7 @@ use rules::{Decoded, PacketReading, Reading};
 
 // START-UP
 
-#[unsafe(no_mangle)]
-pub extern "C" fn lg_start_up(table: &[u32], state: &mut [u32]) -> u32
+pub fn lg_start_up(table: &[u32], state: &mut [u32]) -> u32
     ensures { (result ≡ (lg_start_up table.now state.old).number) × (state.new ≡ (lg_start_up table.now state.old).state) }
 {
     let verdict = start_up(table, state);
@@ -35,8 +34,7 @@ pub extern "C" fn lg_start_up(table: &[u32], state: &mut [u32]) -> u32
 
 // CALLS ON A STATE
 
-#[unsafe(no_mangle)]
-pub extern "C" fn lg_slot(
+pub fn lg_slot(
     state: &mut [u32],
     tick: u32,
     image: &[u32],
@@ -48,8 +46,7 @@ pub extern "C" fn lg_slot(
     slot(state, tick, image, buffer, bytes)
 }
 
-#[unsafe(no_mangle)]
-pub extern "C" fn lg_command(
+pub fn lg_command(
     state: &mut [u32],
     packet: &[u8],
     symbols: &[u8],
@@ -62,8 +59,7 @@ pub extern "C" fn lg_command(
     command(state, packet, symbols, image, reply, bytes)
 }
 
-#[unsafe(no_mangle)]
-pub extern "C" fn lg_commands(
+pub fn lg_commands(
     state: &mut [u32],
     bytes: &[u8],
     starts: &[u32],
@@ -93,8 +89,7 @@ pub extern "C" fn lg_commands(
 
 // THE COMMAND WRITER
 
-#[unsafe(no_mangle)]
-pub extern "C" fn lg_write_command(command: &[u32], buffer: &mut [u8], bytes: &mut u32) -> u32
+pub fn lg_write_command(command: &[u32], buffer: &mut [u8], bytes: &mut u32) -> u32
     ensures { (result ≡ (lg_write_command command.now buffer.old).number) × (buffer.new ≡ (lg_write_command command.now buffer.old).buffer) × (bytes.new ≡ (lg_write_command command.now buffer.old).bytes) }
 {
     *bytes = 0;
@@ -115,8 +110,7 @@ pub extern "C" fn lg_write_command(command: &[u32], buffer: &mut [u8], bytes: &m
 
 // THE READERS
 
-#[unsafe(no_mangle)]
-pub extern "C" fn lg_read_command(packet: &[u8], command: &mut [u32]) -> u32
+pub fn lg_read_command(packet: &[u8], command: &mut [u32]) -> u32
     ensures { (result ≡ (lg_read_command packet.now command.old).number) × (command.new ≡ (lg_read_command packet.now command.old).block) }
 {
     if command.len() != 21 {
@@ -139,8 +133,7 @@ pub extern "C" fn lg_read_command(packet: &[u8], command: &mut [u32]) -> u32
     }
 }
 
-#[unsafe(no_mangle)]
-pub extern "C" fn lg_read_packet(packet: &[u8], fields: &mut [u32], bytes: &mut u32) -> u32
+pub fn lg_read_packet(packet: &[u8], fields: &mut [u32], bytes: &mut u32) -> u32
     ensures { (result ≡ (lg_read_packet packet.now fields.old).number) × (fields.new ≡ (lg_read_packet packet.now fields.old).block) × (bytes.new ≡ (lg_read_packet packet.now fields.old).bytes) }
 {
     *bytes = 0;
@@ -163,8 +156,7 @@ pub extern "C" fn lg_read_packet(packet: &[u8], fields: &mut [u32], bytes: &mut 
 
 // THE CHECK OF A WHOLE DUMP
 
-#[unsafe(no_mangle)]
-pub extern "C" fn lg_check_dump(bytes: &[u8], lengths: &[u8]) -> u32
+pub fn lg_check_dump(bytes: &[u8], lengths: &[u8]) -> u32
     ensures { result ≡ check_dump bytes.now lengths.now }
 {
     check_dump(bytes, lengths)

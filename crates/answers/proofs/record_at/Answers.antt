@@ -1,6 +1,5 @@
 -- `answers::record_at` meets its contract: each field is what `entry` says it is.
 -- Assumes nothing.
-use borrow.Author.Rules.{rules}
 use Rattle.answers.proofs.record_at.Goals as goal
 
 pub returns : goal.returns

@@ -1,6 +1,5 @@
 -- `batches::batch_verdict` meets its contract.
 -- Assumes nothing.
-use borrow.Author.Rules.{rules}
 use borrow.Author.Tests.{lt-ltb, le-ltb}
 use Rattle.batches.proofs.batch_verdict.Goals as goal
 

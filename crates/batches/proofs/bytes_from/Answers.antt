@@ -3,7 +3,6 @@
 use mathlib.Core.Path.{◌≡◌, sym}
 use Prim.Native.Nat.{◌+◌, ◌-◌}
 use native.Mathlib.Omega.{arith}
-use borrow.Author.Rules.{rules}
 use Rattle.batches.proofs.InPlain.{packet_inside, packet_outside}
 use Rattle.batches.proofs.bytes_from.Goals as goal
 

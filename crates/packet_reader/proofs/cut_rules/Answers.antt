@@ -1,7 +1,6 @@
 -- `packet_reader::cut_rules` meets its contract.
 -- Assumes nothing.
 use Rattle.packet_reader.proofs.Steps.{before_start, from_start}
-use borrow.Author.Rules.{rules}
 use Rattle.packet_reader.proofs.cut_rules.Goals as goal
 
 pub returns-then-here-start : goal.returns-then-here-start

@@ -1,9 +1,7 @@
 -- `packet_reader::is_cut` meets its contract.
 -- Assumes nothing.
-use mathlib.Core.Logic.{⊎_elim}
 use native.Mathlib.Omega.{arith}
 use Rattle.packet_reader.proofs.Steps.{all_sent, some_left}
-use borrow.Author.Rules.{rules}
 use Rattle.packet_reader.proofs.is_cut.Goals as goal
 use Rattle.packet_reader.proofs.is_cut.Goals.{then-left-lt1016, else-left-lt1016}
 

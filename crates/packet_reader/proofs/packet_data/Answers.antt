@@ -3,7 +3,6 @@
 use native.Mathlib.Omega.{arith}
 use mathlib.Core.Path.{sym, ◌∙◌}
 use Rattle.packet_reader.proofs.Steps.{refused_part, accepted_part, data_part}
-use borrow.Author.Rules.{rules}
 use Rattle.packet_reader.proofs.packet_data.Goals as goal
 
 pub slice_bounds-result-count-in-Packet : goal.slice_bounds-result-count-in-Packet

@@ -1,7 +1,6 @@
 -- `packet_reader::packet_verdict` meets its contract.
 -- Assumes nothing.
 use Rattle.packet_reader.proofs.Steps.{short, malformed, other_apid, wrong_length, no_cut, accepted}
-use borrow.Author.Rules.{rules}
 use Rattle.packet_reader.proofs.packet_verdict.Goals as goal
 
 pub returns-then-p-lt28 : goal.returns-then-p-lt28

@@ -1,7 +1,6 @@
 -- `packet_reader::read_packet` meets its contract.
 -- Assumes nothing.
 use Rattle.packet_reader.proofs.Steps.{refused_reading, accepted_reading, accepted_long}
-use borrow.Author.Rules.{rules}
 use Rattle.packet_reader.proofs.read_packet.Goals as goal
 
 pub packet_fields-requires : goal.packet_fields-requires
