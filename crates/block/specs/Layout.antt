@@ -4,7 +4,6 @@ use Rattle.rules.specs.Regions.{start_of, region_at}
 use Rattle.rules.specs.States.{pool_at, context_at}
 use Rattle.rules.specs.declared.ActiveDump.{ActiveDump}
 use Rattle.rules.specs.declared.Context.TheVariants.{Idle, Busy}
-use Rattle.rules.specs.declared.Region.{Region}
 use Rattle.rules.specs.declared.State.{State}
 use Rattle.block.specs.Blocks.{block_of}
 

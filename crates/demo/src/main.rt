@@ -6,6 +6,7 @@ use command_writer::write_command;
 use report::{front, result, say, show_answer, show_command};
 use results::answer_length;
 use rules::{Address, Command, Header, Range, Region, Request, Returned, State, SymbolRequest};
+use std::io;
 
 fn range(start: u32, words: u32) -> Range {
     Range {
@@ -32,16 +33,17 @@ fn table() -> [Region; 16] {
 }
 
 // The second region is pool 1.
-fn start() -> State {
+fn start(rt: &impl Print) -> io::Result<State> {
     say(
+        rt,
         b"start-up: unit 2, 1017 words at 00001000, 6 words at 00008000, which are pool 1",
         0,
         [0; 3],
-    );
+    )?;
     let started = state::start_up(table(), 2, [range(0, 0), range(32768, 6)], 2);
     let verdict = started.verdict;
-    result(results::verdict_number(verdict));
-    started.state
+    result(rt, results::verdict_number(verdict))?;
+    Ok(started.state)
 }
 
 // The first region's words count up from 11111111 hex; the pool has a used block of two words and a free one of four.
@@ -154,14 +156,14 @@ fn write(i: usize, packet: &mut [u8; 68]) -> usize {
 }
 
 // Shows what a step does: a slot at a tick, or a command, whose packet it writes. Says how long the packet is.
-fn prepare(i: usize, tick: u32, packet: &mut [u8; 68]) -> usize {
+fn prepare(rt: &impl Print, i: usize, tick: u32, packet: &mut [u8; 68]) -> io::Result<usize> {
     if ((3 <= i) & (i < 6)) | (i == 10) {
-        say(b"\nslot, tick %", 0, [tick as u64, 0, 0]);
-        return 0;
+        say(rt, b"\nslot, tick %", 0, [tick as u64, 0, 0])?;
+        return Ok(0);
     }
     let n = write(i, packet);
-    show_command(front(packet, n));
-    n
+    show_command(rt, front(packet, n))?;
+    Ok(n)
 }
 
 // The command call with a packet of n bytes, or the slot call where n is 0.
@@ -181,43 +183,45 @@ fn serve(
 
 // The same, with its answer shown.
 fn turn(
+    rt: &impl Print,
     s: State,
     packet: &[u8; 68],
     n: usize,
     tick: u32,
     image: &mut [u32; 1023],
     buffer: &mut [u8; 4092],
-) -> State {
+) -> io::Result<State> {
     let done = serve(s, packet, n, tick, image, buffer);
     let a = done.answer;
-    show_answer(a, buffer);
-    done.state
+    show_answer(rt, a, buffer)?;
+    Ok(done.state)
 }
 
-fn totals(s: State) {
+fn totals(rt: &impl Print, s: State) -> io::Result<()> {
     say(
+        rt,
         b"\naccepted %, refused %\n",
         0,
         [s.accepted as u64, s.refused as u64, 0],
-    );
+    )
 }
 
 // Twelve steps: three commands, three slots at ticks 5 to 7, four commands, a slot, a command.
-fn pass(image: &mut [u32; 1023], buffer: &mut [u8; 4092]) {
+fn pass(rt: &impl Print, image: &mut [u32; 1023], buffer: &mut [u8; 4092]) -> io::Result<()> {
     let mut packet = [0u8; 68];
-    let mut s = start();
+    let mut s = start(rt)?;
     let mut i: usize = 0;
     while i < 12 {
         let tick = i as u32 + 2;
-        let n = prepare(i, tick, &mut packet);
-        s = turn(s, &packet, n, tick, image, buffer);
+        let n = prepare(rt, i, tick, &mut packet)?;
+        s = turn(rt, s, &packet, n, tick, image, buffer)?;
         i += 1;
     }
-    totals(s);
+    totals(rt, s)
 }
 
-fn main() {
+fn main(rt: HostRuntime) -> io::Result<()> {
     let mut image = memory();
     let mut buffer = [0u8; 4092];
-    pass(&mut image, &mut buffer);
+    pass(&rt, &mut image, &mut buffer)
 }

@@ -1,5 +1,7 @@
 // Text with numbers in it, bytes in hex, and result numbers.
-ghost use Rattle.std.specs.Prelude.{◌≡◌, ◌≤◌, take, drop};
+ghost use Rattle.std.specs.Prelude.{◌≡◌, ◌≤◌, take, drop, IfOk};
+
+use std::io;
 
 // The first n bytes, or all where there are fewer.
 pub fn front(p: &[u8], n: usize) -> &[u8]
@@ -15,8 +17,8 @@ pub fn after(p: &[u8], n: usize) -> &[u8]
     if n < p.len() { &p[n..] } else { &p[0..0] }
 }
 
-pub fn text(s: &[u8]) {
-    io::write_all(1, s);
+pub fn text(rt: &impl Print, s: &[u8]) -> io::Result<()> {
+    rt.write_all(s)
 }
 
 // How many bars a byte is.
@@ -27,31 +29,31 @@ fn bar(c: u8) -> usize
 }
 
 // Prints a byte of a form, and says how many numbers it took.
-fn mark(c: u8, n: u64) -> usize
-    ensures { result ≤ 1 }
+fn mark(rt: &impl Print, c: u8, n: u64) -> io::Result<usize>
+    ensures { IfOk result (λ taken. taken ≤ 1) }
 {
     match c {
-        b'%' => io::print_decimal(1, n),
-        b'$' => io::print_hex(1, n, 3),
-        b'#' => io::print_hex(1, n, 8),
+        b'%' => print!(rt; "{n}")?,
+        b'$' => print!(rt; "{n:03x}")?,
+        b'#' => print!(rt; "{n:08x}")?,
         _ => {
-            text(&[c]);
-            return 0;
+            text(rt, &[c])?;
+            return Ok(0);
         }
-    };
-    1
+    }
+    Ok(1)
 }
 
 // The same of a byte that may be a bar or in a form that is not asked for.
-fn mark_of(c: u8, n: u64, asked: bool) -> usize
-    ensures { result ≤ 1 }
+fn mark_of(rt: &impl Print, c: u8, n: u64, asked: bool) -> io::Result<usize>
+    ensures { IfOk result (λ taken. taken ≤ 1) }
 {
-    if asked & (c != b'|') { mark(c, n) } else { 0 }
+    if asked & (c != b'|') { mark(rt, c, n) } else { Ok(0) }
 }
 
 // Prints one of the forms that bars part, counted from 0. A mark in it stands for the next number: `%` for it in decimal, `$` and `#` in hex
 // with three and with eight digits.
-pub fn say(forms: &[u8], which: usize, numbers: [u64; 3]) {
+pub fn say(rt: &impl Print, forms: &[u8], which: usize, numbers: [u64; 3]) -> io::Result<()> {
     let mut bars: usize = 0;
     let mut at: usize = 0;
     let mut i: usize = 0;
@@ -59,32 +61,35 @@ pub fn say(forms: &[u8], which: usize, numbers: [u64; 3]) {
         let c = forms[i];
         let n = if at < 3 { numbers[at] } else { 0 };
         bars += bar(c);
-        at += mark_of(c, n, bars == which);
+        at += mark_of(rt, c, n, bars == which)?;
         i += 1;
     }
+    Ok(())
 }
 
-fn byte(i: usize, b: u8) {
+fn byte(rt: &impl Print, i: usize, b: u8) -> io::Result<()> {
     if i % 16 == 0 {
-        text(b"\n   ");
+        text(rt, b"\n   ")?;
     }
-    text(b" ");
-    io::print_hex(1, b as u64, 2);
+    text(rt, b" ")?;
+    print!(rt; "{b:02x}")
 }
 
 // Bytes in hex, sixteen to a line.
-pub fn bytes(p: &[u8]) {
+pub fn bytes(rt: &impl Print, p: &[u8]) -> io::Result<()> {
     let mut i: usize = 0;
     while i < p.len() {
-        byte(i, p[i]);
+        byte(rt, i, p[i])?;
         i += 1;
     }
+    Ok(())
 }
 
 // A result number, and what it means.
-pub fn result(n: u32) {
-    say(b"\n  % ", 0, [n as u64, 0, 0]);
+pub fn result(rt: &impl Print, n: u32) -> io::Result<()> {
+    say(rt, b"\n  % ", 0, [n as u64, 0, 0])?;
     say(
+        rt,
         b"done\
         |state not good\
         |image length differs from the table's sum\
@@ -107,5 +112,5 @@ pub fn result(n: u32) {
         |range starts inside a region and runs out of it",
         n as usize,
         [0; 3],
-    );
+    )
 }

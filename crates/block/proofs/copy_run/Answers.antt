@@ -1,11 +1,8 @@
 -- `block::copy_run` meets its contract.
 -- Assumes nothing.
-use mathlib.Core.Path.{◌≡◌, sym}
-use Prim.Native.Nat.{◌≤◌, ◌-◌}
+use mathlib.Core.Path.{sym}
 use native.Mathlib.Omega.{arith}
-use lib.ListN.{length, take}
 use lib.Seq.{take_all}
-use Rattle.lists.specs.Splice.{splice}
 use Rattle.lists.proofs.Runs.{splice_none, copy_turn}
 use borrow.Author.Rules.{rules}
 use Rattle.block.proofs.copy_run.Goals as goal

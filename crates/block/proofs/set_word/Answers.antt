@@ -3,7 +3,6 @@
 use mathlib.Core.Path.{sym}
 use native.Mathlib.Omega.{arith}
 use lib.Seq.{set_out}
-use borrow.Author.Rules.{rules}
 use Rattle.block.proofs.set_word.Goals as goal
 
 pub returns-else-i-b : goal.returns-else-i-b

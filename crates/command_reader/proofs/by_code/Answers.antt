@@ -4,7 +4,6 @@ use mathlib.Core.Path.{sym, ◌∙◌}
 use Rattle.rules.specs.Packets.{zero_rules, symbol_request_of}
 use Rattle.command_reader.proofs.Steps.{zeros_by_name}
 use Rattle.rules.proofs.Allowed.{decode_dump, decode_cancel, decode_load, decode_pool, decode_value, decode_by_name, decode_other}
-use borrow.Author.Rules.{rules}
 use native.Mathlib.Omega.{arith}
 use Rattle.command_reader.proofs.by_code.Goals as goal
 

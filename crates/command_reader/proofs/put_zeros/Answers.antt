@@ -2,11 +2,9 @@
 -- Assumes nothing.
 use borrow.Author.Rules.{rules}
 use mathlib.Core.Path.{◌≡◌, sym, ap, ◌∙◌}
-use Prim.Native.Nat.{◌≤◌, ◌-◌}
 use native.Mathlib.Nat.{zero-add}
 use native.Mathlib.Omega.{arith}
-use lib.ListN.{length, take, set}
-use Rattle.lists.specs.Splice.{splice}
+use lib.ListN.{set}
 use Rattle.lists.proofs.Runs.{splice_none, copy_turn}
 use Rattle.rules.specs.Ground.{no_words}
 use Rattle.rules.proofs.UsedWords.{zeros_at}

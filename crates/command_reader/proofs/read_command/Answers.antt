@@ -1,7 +1,6 @@
 -- `command_reader::read_command` meets its contract.
 -- Assumes nothing.
 use Rattle.command_reader.proofs.Steps.{read_result}
-use borrow.Author.Rules.{rules}
 use Rattle.command_reader.proofs.read_command.Goals as goal
 
 pub returns : goal.returns

@@ -1,7 +1,6 @@
 -- `command_reader::reading_of` meets its contract.
 -- Assumes nothing.
 use Rattle.command_reader.proofs.Steps.{reading_is}
-use borrow.Author.Rules.{rules}
 use Rattle.command_reader.proofs.reading_of.Goals as goal
 
 pub returns-in-Rejected : goal.returns-in-Rejected

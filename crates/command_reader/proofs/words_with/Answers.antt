@@ -2,7 +2,6 @@
 -- Assumes nothing.
 use native.Mathlib.Omega.{arith}
 use Rattle.command_reader.proofs.Steps.{with_fields}
-use borrow.Author.Rules.{rules}
 use Rattle.command_reader.proofs.words_with.Goals as goal
 
 pub returns-in-Read : goal.returns-in-Read

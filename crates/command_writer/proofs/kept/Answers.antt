@@ -2,7 +2,6 @@
 -- Assumes nothing.
 use native.Mathlib.Omega.{arith}
 use Rattle.command_writer.proofs.Names.{one_kept, two_kept, three_kept, all_kept}
-use borrow.Author.Rules.{rules}
 use Rattle.command_writer.proofs.kept.Goals as goal
 
 pub returns-in-1 : goal.returns-in-1

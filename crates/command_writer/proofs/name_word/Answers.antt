@@ -5,7 +5,6 @@ use Prim.Native.Nat.{◌*◌, ◌-◌}
 use native.Mathlib.Omega.{arith}
 use lib.ListN.{get_or}
 use Rattle.command_writer.proofs.Names.{all_kept, name_part, not_given, beyond_name}
-use borrow.Author.Rules.{rules}
 use Rattle.command_writer.proofs.name_word.Goals as goal
 
 pub returns-then-words-i : goal.returns-then-words-i

@@ -1,24 +1,17 @@
 -- `command_writer::put_data` meets its contract. The loop's invariant: the first `i` words stand, and `all` has their exclusive or.
 -- Assumes nothing.
-use Prim.Native.Nat.{ℕ, ◌+◌, ◌*◌, ◌≤◌, ◌-◌, ◌<◌}
-use borrow.Author.Rules.{rules}
-use native.Mathlib.Omega.{arith}
-use mathlib.Core.Path.{◌≡◌, refl, sym, ap, ◌∙◌}
-use Prim.Native.Nat.{◌≤◌, ◌-◌, ◌<◌}
-use lib.ListN.{length, take, get_or}
-use lib.Seq.{take_all}
+use Prim.Native.Nat.{◌≤◌, ◌-◌}
+use mathlib.Core.Path.{◌≡◌}
+use Prim.Native.Nat.{◌≤◌, ◌-◌}
+use lib.ListN.{length, take}
 use Rattle.lists.specs.Splice.{splice}
-use Rattle.lists.proofs.Runs.{splice_none}
 use Rattle.wire.specs.Bytes.{be, word_bytes}
 use Rattle.wire.specs.Xor.{xor_all}
-use Rattle.wire.proofs.WordRuns.{word_bytes_more, word_turn}
 use Rattle.rules.specs.Packets.{used_words}
-use Rattle.rules.proofs.Fits.{used_length}
-use Rattle.command_writer.proofs.Steps.{both_words}
 use Rattle.command_writer.proofs.put_data.Given as goal
 
 abbrev pub invariant-loop-i : goal.invariant-loop-i
-invariant-loop-i l =     (l.i ≤ 11) × (l.b ≡ splice l.initial.b 16 (word_bytes (take l.i (used_words l.size l.words)))) × (length l.b ≡ length l.initial.b)
+invariant-loop-i l = (l.i ≤ 11) × (l.b ≡ splice l.initial.b 16 (word_bytes (take l.i (used_words l.size l.words)))) × (length l.b ≡ length l.initial.b)
     × (xor_all (be 4 l.all) ≡ xor_all (word_bytes (take l.i (used_words l.size l.words))))
 
 abbrev pub decreases-loop-i : goal.decreases-loop-i

@@ -1,8 +1,6 @@
 -- `command_writer::put_identity` meets its contract.
 -- Assumes nothing.
-use native.Mathlib.Omega.{arith}
 use Rattle.command_writer.proofs.Steps.{half_word, identity_stores}
-use borrow.Author.Rules.{rules}
 use Rattle.command_writer.proofs.put_identity.Goals as goal
 
 pub returns : goal.returns

@@ -1,10 +1,10 @@
 -- `command_writer::put_name` meets its contract. The loop's invariant: the first `i` words of the name stand, and `all` has the exclusive or of what is written.
 -- Assumes nothing.
 use mathlib.Core.Path.{◌≡◌, refl, sym, ap, ◌∙◌}
-use mathlib.Core.List.{List, ◌++◌}
-use Prim.Native.Nat.{ℕ, ◌+◌, ◌*◌, ◌-◌, ◌≤◌}
+use mathlib.Core.List.{List}
+use Prim.Native.Nat.{ℕ, ◌+◌, ◌*◌}
 use native.Mathlib.Omega.{arith}
-use lib.ListN.{length, take}
+use lib.ListN.{take}
 use lib.Seq.{take_all}
 use Rattle.lists.specs.Splice.{splice}
 use Rattle.lists.proofs.Runs.{splice_none, splice_splice}

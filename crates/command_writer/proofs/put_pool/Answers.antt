@@ -7,7 +7,6 @@ use Rattle.lists.specs.Splice.{splice}
 use Rattle.wire.specs.Bytes.{word_bytes}
 use Rattle.wire.specs.Xor.{xor_all}
 use Rattle.wire.proofs.Numbers.{two_halves}
-use borrow.Author.Rules.{rules}
 use Rattle.command_writer.proofs.put_pool.Goals as goal
 
 pub returns : goal.returns

@@ -2,14 +2,12 @@
 -- Assumes nothing.
 use native.Mathlib.Omega.{arith}
 use mathlib.Core.Path.{ap, refl, ◌∙◌}
-use mathlib.Core.List.{[], ◌++◌}
 use Prim.Native.Nat.{◌+◌, ◌*◌}
 use Rattle.lists.specs.Splice.{splice}
 use Rattle.wire.specs.Bytes.{be, word_bytes}
 use Rattle.wire.specs.Xor.{xor_all}
 use Rattle.wire.proofs.Numbers.{two_halves}
 use Rattle.command_writer.proofs.Steps.{both_words}
-use borrow.Author.Rules.{rules}
 use Rattle.command_writer.proofs.put_request.Goals as goal
 
 pub returns : goal.returns

@@ -4,7 +4,6 @@ use native.Mathlib.Omega.{arith}
 use mathlib.Core.Path.{ap}
 use Rattle.rules.specs.Packets.{packet_length}
 use Rattle.command_writer.proofs.Steps.{load_written}
-use borrow.Author.Rules.{rules}
 use Rattle.command_writer.proofs.put_rest.Goals as goal
 
 pub put_request-requires : goal.put_request-requires

@@ -2,7 +2,6 @@
 -- Assumes nothing.
 use native.Mathlib.Omega.{arith}
 use Rattle.command_writer.proofs.Steps.{start_written}
-use borrow.Author.Rules.{rules}
 use Rattle.command_writer.proofs.put_start.Goals as goal
 
 pub returns : goal.returns

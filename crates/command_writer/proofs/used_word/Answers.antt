@@ -3,7 +3,6 @@
 use mathlib.Core.Path.{sym, ◌∙◌}
 use lib.ListN.{get_or-eq_default}
 use Rattle.rules.proofs.UsedWords.{used_word, unused_word}
-use borrow.Author.Rules.{rules}
 use Rattle.command_writer.proofs.used_word.Goals as goal
 
 pub returns-then-size-i : goal.returns-then-size-i

@@ -2,7 +2,6 @@
 -- Assumes nothing.
 use native.Mathlib.Omega.{arith}
 use Rattle.command_writer.proofs.Steps.{rules_fail, rules_hold, rest_fits, start_fits, too_short, bad_field, packet_written}
-use borrow.Author.Rules.{rules}
 use Rattle.command_writer.proofs.write_packet.Goals as goal
 
 pub returns-then-buffer-n : goal.returns-then-buffer-n
@@ -14,11 +13,10 @@ returns-then-not-header_rules-field_rules c =
     (rules_fail _ _ _ _ c.header_rules.ensures c.field_rules.ensures c.if-not-header_rules-field_rules.true-raw)
 
 pub put_rest-rest-requires : goal.put_rest-rest-requires
-put_rest-rest-requires c =
-    (
-      rest_fits _ _ (rules_hold _ _ _ _ c.header_rules.ensures c.field_rules.ensures c.if-not-header_rules-field_rules.false-raw) _ c.wide32.ensures.0,
-      omega (arith, c.packet_length-n.ensures, c.if-buffer-n.false),
-    )
+put_rest-rest-requires c = (
+  rest_fits _ _ (rules_hold _ _ _ _ c.header_rules.ensures c.field_rules.ensures c.if-not-header_rules-field_rules.false-raw) _ c.wide32.ensures.0,
+  omega (arith, c.packet_length-n.ensures, c.if-buffer-n.false),
+)
 
 pub put_start-requires : goal.put_start-requires
 put_start-requires c =

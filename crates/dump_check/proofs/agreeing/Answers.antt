@@ -1,6 +1,5 @@
 -- `dump_check::agreeing` meets its contract.
 -- Assumes nothing.
-use borrow.Author.Rules.{rules}
 use Rattle.dump_check.proofs.Pieces.{agree_is}
 use Rattle.dump_check.proofs.agreeing.Goals as goal
 

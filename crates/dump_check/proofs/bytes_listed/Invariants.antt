@@ -1,11 +1,8 @@
 -- `dump_check::bytes_listed` meets its contract.
 -- Assumes nothing.
-use mathlib.Core.Path.{◌≡◌, refl, sym, ap₂, ◌∙◌}
-use Prim.Native.Nat.{◌+◌, ◌*◌, ◌-◌, ◌≤◌}
-use native.Mathlib.Omega.{arith}
-use borrow.Author.Rules.{rules}
-use Rattle.lists.proofs.Below.{sum_more}
-use Rattle.whole_dump.specs.Check.{length_at, bytes_before}
+use mathlib.Core.Path.{◌≡◌}
+use Prim.Native.Nat.{◌*◌, ◌-◌, ◌≤◌}
+use Rattle.whole_dump.specs.Check.{bytes_before}
 use Rattle.dump_check.proofs.bytes_listed.Given as goal
 
 abbrev pub invariant-loop-i : goal.invariant-loop-i

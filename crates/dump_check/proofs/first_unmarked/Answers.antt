@@ -1,14 +1,11 @@
 -- `dump_check::first_unmarked` meets its contract.
 -- Assumes nothing.
 use mathlib.Core.Path.{◌≡◌, sym}
-use mathlib.Core.Bool.{false}
-use Prim.Native.Nat.{◌-◌, ◌≤◌}
 use native.Mathlib.Omega.{arith}
 use lib.Dec.{eqb}
 use lib.ListN.{get_or}
 use borrow.Author.Rules.{rules}
 use borrow.Author.Tests.{eq-eqb, ne_eqb}
-use Rattle.lists.specs.Below.{any_below}
 use Rattle.lists.proofs.Below.{first_is, first_none, none_at, none_more}
 use Rattle.dump_check.proofs.first_unmarked.Goals as goal
 

@@ -5,7 +5,6 @@ use Prim.Native.Nat.{◌-◌, ◌/◌, ◌≤◌}
 use native.Mathlib.Omega.{arith}
 use lib.ListN.{length}
 use borrow.Author.Rules.{rules}
-use borrow.Author.Tests.{not-true, not-false}
 use Rattle.packet_reader.proofs.Steps.{accepted_long}
 use Rattle.dump_check.proofs.Pieces.{data_after, refused_piece, accepted_read, other_piece, own_piece}
 use Rattle.dump_check.proofs.piece_in.Goals as goal

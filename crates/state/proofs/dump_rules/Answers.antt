@@ -2,7 +2,6 @@
 -- Assumes nothing.
 use Rattle.regions.proofs.Answers.{can_dump_of}
 use Rattle.state.proofs.Steps.{dump_tested}
-use borrow.Author.Rules.{rules}
 use Rattle.state.proofs.dump_rules.Goals as goal
 
 pub returns : goal.returns

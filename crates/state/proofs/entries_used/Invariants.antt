@@ -1,12 +1,8 @@
 -- `state::entries_used` meets its contract.
 -- Assumes nothing.
-use mathlib.Core.Path.{◌≡◌, ap, ◌∙◌}
+use mathlib.Core.Path.{◌≡◌}
 use Prim.Native.Nat.{◌-◌, ◌≤◌}
-use native.Mathlib.Omega.{arith}
-use lib.ListN.{length}
 use Rattle.rules.specs.States.{entries_used}
-use Rattle.state.proofs.Steps.{used_none, used_more}
-use borrow.Author.Rules.{rules}
 use Rattle.state.proofs.entries_used.Given as goal
 
 abbrev pub invariant-loop-i : goal.invariant-loop-i

@@ -2,7 +2,6 @@
 -- Assumes nothing.
 use Rattle.rules.proofs.Located.{good_table}
 use Rattle.regions.proofs.Answers.{found_in_order}
-use borrow.Author.Rules.{rules}
 use Rattle.state.proofs.find.Goals as goal
 
 pub returns : goal.returns

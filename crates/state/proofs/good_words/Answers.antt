@@ -3,7 +3,6 @@
 use mathlib.Core.Path.{◌∙◌}
 use Rattle.state.proofs.Steps.{good_no_start, good_broken, good_kept}
 use Rattle.state.proofs.Answers.{start_words_none, start_words_some}
-use borrow.Author.Rules.{rules}
 use Rattle.state.proofs.good_words.Goals as goal
 
 pub returns-then-words-eq0 : goal.returns-then-words-eq0

@@ -1,6 +1,5 @@
 -- `state::index` meets its contract.
 -- Assumes nothing.
-use borrow.Author.Rules.{rules}
 use Rattle.state.proofs.index.Goals as goal
 
 pub returns-in-StartsOutside : goal.returns-in-StartsOutside

@@ -2,7 +2,6 @@
 -- Assumes nothing.
 use mathlib.Core.Path.{sym, ◌∙◌}
 use Rattle.state.proofs.Steps.{place_idle, place_busy}
-use borrow.Author.Rules.{rules}
 use Rattle.state.proofs.place_rules.Goals as goal
 
 pub returns-in-Idle : goal.returns-in-Idle

@@ -4,7 +4,6 @@ use Prim.Native.Nat.{◌≤◌}
 use native.Mathlib.Omega.{arith}
 use borrow.Author.Tests.{eq-eqb, ne_eqb}
 use Rattle.regions.proofs.Answers.{can_dump_of}
-use borrow.Author.Rules.{rules}
 use Rattle.state.proofs.pool_rules.Goals as goal
 
 pub returns-then-p-eq0 : goal.returns-then-p-eq0

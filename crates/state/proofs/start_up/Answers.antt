@@ -2,7 +2,6 @@
 -- Assumes nothing.
 use Rattle.state.proofs.Steps.{start_refused, start_accepted}
 use Rattle.state.proofs.Answers.{start_words_none, start_words_some, start_words_count}
-use borrow.Author.Rules.{rules}
 use Rattle.state.proofs.start_up.Goals as goal
 
 pub returns-then-start_words-eq0 : goal.returns-then-start_words-eq0

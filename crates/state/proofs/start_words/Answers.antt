@@ -3,7 +3,6 @@
 use mathlib.Core.Path.{sym, ◌∙◌}
 use Rattle.regions.proofs.Answers.{table_words_none, table_words_some}
 use Rattle.state.proofs.Steps.{start_no_table, start_broken, start_kept}
-use borrow.Author.Rules.{rules}
 use Rattle.state.proofs.start_words.Goals as goal
 
 pub returns-then-words-eq0 : goal.returns-then-words-eq0

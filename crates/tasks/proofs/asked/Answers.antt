@@ -1,7 +1,6 @@
 -- `tasks::asked` meets its contract.
 -- Assumes nothing.
 use Rattle.tasks.specs.Asked.{sought_in}
-use borrow.Author.Rules.{rules}
 use Rattle.tasks.proofs.asked.Goals as goal
 
 pub returns-in-Rejected : goal.returns-in-Rejected

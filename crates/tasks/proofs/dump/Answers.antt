@@ -2,7 +2,6 @@
 -- Assumes nothing.
 use Rattle.tasks.specs.Asked.{asked_of}
 use Rattle.rules.specs.Packets.{field_rules}
-use borrow.Author.Rules.{rules}
 use Rattle.tasks.proofs.dump.Goals as goal
 
 pub returns-in-Rejected : goal.returns-in-Rejected

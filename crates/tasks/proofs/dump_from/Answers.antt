@@ -2,7 +2,6 @@
 -- Assumes nothing.
 use native.Mathlib.Omega.{arith}
 use Rattle.tasks.proofs.Steps.{below_0, too_high, not_aligned, no_words, some_words}
-use borrow.Author.Rules.{rules}
 use Rattle.tasks.proofs.dump_from.Goals as goal
 
 pub returns-then-moved-lt4294967296 : goal.returns-then-moved-lt4294967296

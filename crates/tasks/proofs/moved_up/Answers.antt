@@ -2,7 +2,6 @@
 -- Assumes nothing.
 use native.Mathlib.Omega.{arith}
 use borrow.Author.Tests.{lt-ltb, le-ltb}
-use borrow.Author.Rules.{rules}
 use Rattle.tasks.proofs.moved_up.Goals as goal
 
 pub returns-then-offset-lt2147483648 : goal.returns-then-offset-lt2147483648

@@ -2,7 +2,6 @@
 -- Assumes nothing.
 use native.Mathlib.Omega.{arith}
 use Rattle.tasks.proofs.Steps.{name_none, name_cut, name_whole}
-use borrow.Author.Rules.{rules}
 use Rattle.tasks.proofs.name_in.Goals as goal
 
 pub returns-then-p-lt12 : goal.returns-then-p-lt12

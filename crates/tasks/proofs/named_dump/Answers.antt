@@ -4,7 +4,6 @@ use mathlib.Core.Path.{ap, ◌∙◌}
 use Rattle.rules.specs.Packets.{name_fits}
 use Rattle.rules.specs.declared.SymbolRequest.{SymbolRequest}
 use Rattle.tasks.proofs.Steps.{dump_as, zeros_of}
-use borrow.Author.Rules.{rules}
 use Rattle.tasks.proofs.named_dump.Goals as goal
 
 pub returns-in-Rejected : goal.returns-in-Rejected

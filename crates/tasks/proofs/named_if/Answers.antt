@@ -1,6 +1,5 @@
 -- `tasks::named_if` meets its contract.
 -- Assumes nothing.
-use borrow.Author.Rules.{rules}
 use Rattle.tasks.proofs.named_if.Goals as goal
 
 pub returns-else-right : goal.returns-else-right

@@ -3,7 +3,6 @@
 use mathlib.Core.Path.{ap, ◌∙◌}
 use native.Mathlib.Omega.{arith}
 use Rattle.lists.specs.Splice.{splice}
-use borrow.Author.Rules.{rules}
 use Rattle.tasks.proofs.put_value.Goals as goal
 
 pub returns : goal.returns

@@ -2,7 +2,6 @@
 -- Assumes nothing.
 use Rattle.rules.specs.Packets.{name_in}
 use Rattle.tasks.proofs.Steps.{answered_as}
-use borrow.Author.Rules.{rules}
 use Rattle.tasks.proofs.resolved.Goals as goal
 
 pub returns-in-NoTable : goal.returns-in-NoTable

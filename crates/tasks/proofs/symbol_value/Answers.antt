@@ -3,7 +3,6 @@
 use mathlib.Core.Path.{ap, ◌∙◌}
 use Rattle.rules.specs.Packets.{name_fits, zero_rules}
 use Rattle.tasks.proofs.Steps.{value_as}
-use borrow.Author.Rules.{rules}
 use Rattle.tasks.proofs.symbol_value.Goals as goal
 
 pub returns-in-Rejected : goal.returns-in-Rejected

@@ -2,7 +2,6 @@
 -- Assumes nothing.
 use native.Mathlib.Omega.{arith}
 use Rattle.tasks.proofs.ValueBytes.{value_as_words}
-use borrow.Author.Rules.{rules}
 use Rattle.tasks.proofs.value_words.Goals as goal
 
 pub returns : goal.returns
