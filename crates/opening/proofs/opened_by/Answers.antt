@@ -1,6 +1,5 @@
 -- `opening::opened_by` meets its contract.
 -- Assumes nothing.
-use borrow.Author.Rules.{rules}
 use Rattle.opening.proofs.opened_by.Goals as goal
 
 pub returns-in-Rejected : goal.returns-in-Rejected

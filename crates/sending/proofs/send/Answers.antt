@@ -1,6 +1,5 @@
 -- `sending::send` meets its contract.
 -- Assumes nothing.
-use borrow.Author.Rules.{rules}
 use Rattle.sending.proofs.send.Goals as goal
 
 pub returns-in-StartsOutside : goal.returns-in-StartsOutside

@@ -3,7 +3,6 @@
 use mathlib.Core.Path.{refl}
 use Rattle.opening.proofs.Facts.{words_cut}
 use Rattle.sending.proofs.Facts.{packet_put}
-use borrow.Author.Rules.{rules}
 use Rattle.sending.proofs.send_out.Goals as goal
 
 pub returns-in-Keep : goal.returns-in-Keep

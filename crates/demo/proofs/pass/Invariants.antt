@@ -1,0 +1,10 @@
+-- `demo::pass`'s invariant: the step is one of the twelve.
+-- Assumes nothing.
+use Rattle.std.proofs.Common.{◌-◌, ◌≤◌}
+use Rattle.demo.proofs.pass.Given as goal
+
+abbrev pub invariant-loop-i : goal.invariant-loop-i
+invariant-loop-i g l = l.i ≤ 12
+
+abbrev pub decreases-loop-i : goal.decreases-loop-i
+decreases-loop-i g l = 12 - l.i
