@@ -1,6 +1,5 @@
 -- `ground_blocks::body_words` meets its contract.
 -- Assumes nothing.
-use borrow.Author.Rules.{rules}
 use Rattle.ground_blocks.proofs.body_words.Goals as goal
 
 pub returns-in-Dump : goal.returns-in-Dump

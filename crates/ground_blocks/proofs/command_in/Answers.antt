@@ -7,7 +7,6 @@ use Prim.Native.Nat.{ℕ}
 use native.Mathlib.Omega.{arith}
 use lib.Dec.{eqb}
 use Rattle.ground_blocks.specs.Fields.{command_in}
-use borrow.Author.Rules.{rules}
 use Rattle.ground_blocks.proofs.command_in.Goals as goal
 
 pub returns-in-0 : goal.returns-in-0

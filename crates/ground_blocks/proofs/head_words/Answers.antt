@@ -1,7 +1,6 @@
 -- `ground_blocks::head_words` meets its contract.
 -- Assumes nothing.
 use Rattle.ground_blocks.proofs.Head.{head_is}
-use borrow.Author.Rules.{rules}
 use Rattle.ground_blocks.proofs.head_words.Goals as goal
 
 pub returns : goal.returns

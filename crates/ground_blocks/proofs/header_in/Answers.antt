@@ -1,6 +1,5 @@
 -- `ground_blocks::header_in` meets its contract.
 -- Assumes nothing.
-use borrow.Author.Rules.{rules}
 use Rattle.ground_blocks.proofs.header_in.Goals as goal
 
 pub returns : goal.returns

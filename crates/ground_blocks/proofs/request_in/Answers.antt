@@ -1,6 +1,5 @@
 -- `ground_blocks::request_in` meets its contract.
 -- Assumes nothing.
-use borrow.Author.Rules.{rules}
 use Rattle.ground_blocks.proofs.request_in.Goals as goal
 
 pub returns : goal.returns

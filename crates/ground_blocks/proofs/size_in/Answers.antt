@@ -1,7 +1,6 @@
 -- `ground_blocks::size_in` meets its contract.
 -- Assumes nothing.
 use borrow.Author.Tests.{le-leb, lt-leb}
-use borrow.Author.Rules.{rules}
 use Rattle.ground_blocks.proofs.size_in.Goals as goal
 
 pub returns-then-w-le65535 : goal.returns-then-w-le65535

@@ -1,6 +1,5 @@
 -- `ground_blocks::tail_words` meets its contract.
 -- Assumes nothing.
-use borrow.Author.Rules.{rules}
 use Rattle.ground_blocks.proofs.tail_words.Goals as goal
 
 pub returns-in-SymbolValue : goal.returns-in-SymbolValue

@@ -1,7 +1,6 @@
 -- `lent_places::context_at` meets its contract.
 -- Assumes nothing.
 use Rattle.lent_places.proofs.Steps.{past_read, idle_read, busy_read}
-use borrow.Author.Rules.{rules}
 use Rattle.lent_places.proofs.context_at.Goals as goal
 
 pub returns-then-i-ge4 : goal.returns-then-i-ge4

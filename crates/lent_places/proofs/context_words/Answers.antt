@@ -1,6 +1,5 @@
 -- `lent_places::context_words` meets its contract.
 -- Assumes nothing.
-use borrow.Author.Rules.{rules}
 use Rattle.lent_places.proofs.context_words.Goals as goal
 
 pub returns-in-Busy : goal.returns-in-Busy

@@ -1,15 +1,9 @@
 -- `lent_places::first_idle` meets its contract.
 -- Assumes nothing.
-use Prim.Native.Nat.{◌≤◌, ◌-◌}
-use mathlib.Core.Bool.{false}
-use mathlib.Core.Path.{◌≡◌, refl, sym, ◌∙◌}
+use mathlib.Core.Path.{refl, sym, ◌∙◌}
 use native.Mathlib.Omega.{arith}
-use borrow.Author.Rules.{rules}
-use Rattle.lists.specs.Below.{any_below}
-use Rattle.rules.specs.States.{context_at}
-use Rattle.rules.specs.Commands.{is_idle, first_idle}
+use Rattle.rules.specs.Commands.{first_idle}
 use Rattle.places.proofs.Steps.{go_on, stop_here, none_left}
-use Rattle.block.specs.Blocks.{places_in}
 use Rattle.lent_places.proofs.first_idle.Goals as goal
 
 pub loop-i-init : goal.loop-i-init

@@ -2,13 +2,10 @@
 -- Assumes nothing.
 use Prim.Native.Nat.{◌≤◌, ◌-◌}
 use mathlib.Core.Bool.{false}
-use mathlib.Core.Path.{◌≡◌, refl, sym, ◌∙◌}
-use native.Mathlib.Omega.{arith}
-use borrow.Author.Rules.{rules}
+use mathlib.Core.Path.{◌≡◌}
 use Rattle.lists.specs.Below.{any_below}
 use Rattle.rules.specs.States.{context_at}
-use Rattle.rules.specs.Commands.{is_idle, first_idle}
-use Rattle.places.proofs.Steps.{go_on, stop_here, none_left}
+use Rattle.rules.specs.Commands.{is_idle}
 use Rattle.block.specs.Blocks.{places_in}
 use Rattle.lent_places.proofs.first_idle.Given as goal
 

@@ -1,15 +1,9 @@
 -- `lent_places::first_with` meets its contract.
 -- Assumes nothing.
-use Prim.Native.Nat.{◌≤◌, ◌-◌}
-use mathlib.Core.Bool.{false}
-use mathlib.Core.Path.{◌≡◌, refl, sym, ◌∙◌}
+use mathlib.Core.Path.{refl, sym, ◌∙◌}
 use native.Mathlib.Omega.{arith}
-use borrow.Author.Rules.{rules}
-use Rattle.lists.specs.Below.{any_below}
-use Rattle.rules.specs.States.{context_at, busy_with}
 use Rattle.places.specs.Turns.{first_within}
 use Rattle.places.proofs.Steps.{go_on, stop_here}
-use Rattle.block.specs.Blocks.{places_in}
 use Rattle.lent_places.proofs.Steps.{none_with}
 use Rattle.lent_places.proofs.first_with.Goals as goal
 

@@ -2,15 +2,10 @@
 -- Assumes nothing.
 use Prim.Native.Nat.{◌≤◌, ◌-◌}
 use mathlib.Core.Bool.{false}
-use mathlib.Core.Path.{◌≡◌, refl, sym, ◌∙◌}
-use native.Mathlib.Omega.{arith}
-use borrow.Author.Rules.{rules}
+use mathlib.Core.Path.{◌≡◌}
 use Rattle.lists.specs.Below.{any_below}
 use Rattle.rules.specs.States.{context_at, busy_with}
-use Rattle.places.specs.Turns.{first_within}
-use Rattle.places.proofs.Steps.{go_on, stop_here}
 use Rattle.block.specs.Blocks.{places_in}
-use Rattle.lent_places.proofs.Steps.{none_with}
 use Rattle.lent_places.proofs.first_with.Given as goal
 
 abbrev pub invariant-loop-i : goal.invariant-loop-i

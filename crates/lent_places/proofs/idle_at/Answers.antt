@@ -1,7 +1,6 @@
 -- `lent_places::idle_at` meets its contract.
 -- Assumes nothing.
 use Rattle.lent_places.proofs.Steps.{idle_word}
-use borrow.Author.Rules.{rules}
 use Rattle.lent_places.proofs.idle_at.Goals as goal
 
 pub returns : goal.returns

@@ -1,13 +1,7 @@
 -- `lent_places::next_place` meets its contract.
 -- Assumes nothing.
-use Prim.Native.Nat.{◌≤◌, ◌-◌}
-use mathlib.Core.Bool.{false}
-use mathlib.Core.Path.{◌≡◌, refl}
+use mathlib.Core.Path.{refl}
 use native.Mathlib.Omega.{arith}
-use borrow.Author.Rules.{rules}
-use Rattle.lists.specs.Below.{any_below}
-use Rattle.rules.specs.States.{context_at}
-use Rattle.rules.specs.Slots.{is_busy, place_after}
 use Rattle.lent_places.specs.Reading.{places_read}
 use Rattle.places.proofs.Steps.{stop_at, go_round, all_idle}
 use Rattle.lent_places.proofs.next_place.Goals as goal

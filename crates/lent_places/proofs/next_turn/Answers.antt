@@ -1,6 +1,5 @@
 -- `lent_places::next_turn` meets its contract.
 -- Assumes nothing.
-use borrow.Author.Rules.{rules}
 use Rattle.places.specs.Turns.{next_turn}
 use Rattle.lent_places.proofs.next_turn.Goals as goal
 

@@ -1,7 +1,6 @@
 -- `lent_places::place_bounds` meets its contract.
 -- Assumes nothing.
 use Rattle.lent_places.proofs.Steps.{past_bounds, idle_bounds, busy_bounds}
-use borrow.Author.Rules.{rules}
 use Rattle.lent_places.proofs.place_bounds.Goals as goal
 
 pub returns-then-i-ge4 : goal.returns-then-i-ge4

@@ -1,7 +1,6 @@
 -- `lent_places::put_context` meets its contract.
 -- Assumes nothing.
 use Rattle.lent_places.proofs.Steps.{other_length, no_place, place_written}
-use borrow.Author.Rules.{rules}
 use Rattle.lent_places.proofs.put_context.Goals as goal
 
 pub returns-then-b-ne80 : goal.returns-then-b-ne80

@@ -1,7 +1,6 @@
 -- `lent_places::with_at` meets its contract.
 -- Assumes nothing.
 use Rattle.lent_places.proofs.Steps.{number_word}
-use borrow.Author.Rules.{rules}
 use Rattle.lent_places.proofs.with_at.Goals as goal
 
 pub returns : goal.returns

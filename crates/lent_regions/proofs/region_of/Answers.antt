@@ -2,12 +2,11 @@
 -- Assumes nothing.
 use borrow.Author.Rules.{rules}
 use mathlib.Core.Path.{refl, sym, ◌∙◌}
-use mathlib.Core.Logic.{⊎_elim}
 use Prim.Native.Nat.{◌≤◌, ◌<◌}
 use native.Mathlib.Omega.{arith}
 use Rattle.regions.specs.Halving.{middle}
 use Rattle.regions.proofs.InOrder.{at_most_five}
-use Rattle.regions.proofs.Steps.{falls_short, Left, all_left, half_left, on_short, on_long, one_left_lem, all_counted, count_low, compared_is, region_held, region_none}
+use Rattle.regions.proofs.Steps.{all_left, half_left, on_short, on_long, one_left_lem, all_counted, count_low, compared_is, region_held, region_none}
 use Rattle.block.specs.Blocks.{regions_in}
 use Rattle.lent_regions.proofs.Steps.{end_is, held_at}
 use Rattle.lent_regions.proofs.region_of.Goals as goal
@@ -34,8 +33,8 @@ loop-left-preserved c =
       c.loop-left.invariant.0,
       half_left _ _ first left _ c.loop-left.invariant.1 c.loop-left-test.true _
           (elim c.if-end_of-end.branch [
-            then-end_of-end x ↦ x.first-is ∙ on_short (regions_in w 0) _ first left _ e x.if-end_of-end.true
-          | else-end_of-end x ↦ x.first-is ∙ on_long (regions_in w 0) _ first left _ e x.if-end_of-end.false
+            | then-end_of-end x ↦ x.first-is ∙ on_short (regions_in w 0) _ first left _ e x.if-end_of-end.true
+            | else-end_of-end x ↦ x.first-is ∙ on_long (regions_in w 0) _ first left _ e x.if-end_of-end.false
           ]),
     )
 

@@ -1,14 +1,10 @@
 -- `lent_regions::rights_bounds` meets its contract.
 -- Assumes nothing.
-use borrow.Author.Rules.{rules}
-use mathlib.Core.Path.{◌≡◌, ◌∙◌}
+use mathlib.Core.Path.{◌≡◌}
 use Prim.Native.Nat.{ℕ, ◌+◌, ◌*◌, ◌-◌, ◌≤◌}
-use native.Mathlib.Omega.{arith}
 use lib.Dec.{leb}
 use Rattle.lists.specs.Below.{all_below}
-use Rattle.lists.proofs.Below.{all_more}
 use Rattle.block.specs.Blocks.{word}
-use Rattle.lent_regions.proofs.Steps.{rights_all}
 use Rattle.lent_regions.proofs.rights_bounds.Given as goal
 
 abbrev pub invariant-loop-i : goal.invariant-loop-i

@@ -3,12 +3,10 @@
 use borrow.Author.Rules.{rules}
 use mathlib.Core.Path.{◌≡◌, sym, ◌∙◌}
 use mathlib.Core.Bool.{true}
-use Prim.Native.Nat.{◌*◌, ◌-◌, ◌≤◌, ◌<◌}
+use Prim.Native.Nat.{◌<◌}
 use native.Mathlib.Omega.{arith}
-use borrow.Author.Tests.{not-true, not-false}
-use Rattle.lists.specs.Below.{all_below}
 use Rattle.lists.proofs.Below.{all_more}
-use Rattle.rules.specs.Regions.{end_before, region_rules, words_below}
+use Rattle.rules.specs.Regions.{region_rules, words_below}
 use Rattle.regions.proofs.Steps.{table_outside, table_inside, table_broken, table_kept}
 use Rattle.block.specs.Blocks.{regions_in}
 use Rattle.lent_regions.proofs.Steps.{rules_at, end_at, words_at_lem}

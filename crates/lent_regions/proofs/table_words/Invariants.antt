@@ -1,21 +1,15 @@
 -- `lent_regions::table_words` meets its contract.
 -- Assumes nothing.
-use borrow.Author.Rules.{rules}
-use mathlib.Core.Path.{◌≡◌, sym, ◌∙◌}
+use mathlib.Core.Path.{◌≡◌}
 use mathlib.Core.Bool.{true}
-use Prim.Native.Nat.{◌*◌, ◌-◌, ◌≤◌, ◌<◌}
-use native.Mathlib.Omega.{arith}
-use borrow.Author.Tests.{not-true, not-false}
+use Prim.Native.Nat.{◌*◌, ◌-◌, ◌≤◌}
 use Rattle.lists.specs.Below.{all_below}
-use Rattle.lists.proofs.Below.{all_more}
 use Rattle.rules.specs.Regions.{end_before, region_rules, words_below}
-use Rattle.regions.proofs.Steps.{table_outside, table_inside, table_broken, table_kept}
 use Rattle.block.specs.Blocks.{regions_in}
-use Rattle.lent_regions.proofs.Steps.{rules_at, end_at, words_at_lem}
 use Rattle.lent_regions.proofs.table_words.Given as goal
 
 abbrev pub invariant-loop-i : goal.invariant-loop-i
-invariant-loop-i l =     (l.i ≤ l.n) × ((1 ≤ l.n) × (l.n ≤ 16)) × (l.total ≡ words_below (regions_in l.rs 0) l.i) × (l.total ≤ 4294967296 * l.i) × (l.before ≡ end_before (regions_in l.rs 0) l.i)
+invariant-loop-i l = (l.i ≤ l.n) × ((1 ≤ l.n) × (l.n ≤ 16)) × (l.total ≡ words_below (regions_in l.rs 0) l.i) × (l.total ≤ 4294967296 * l.i) × (l.before ≡ end_before (regions_in l.rs 0) l.i)
     × (all_below (region_rules (regions_in l.rs 0)) l.i ≡ true)
 
 abbrev pub decreases-loop-i : goal.decreases-loop-i

@@ -1,6 +1,5 @@
 -- `lent_regions::word_index` meets its contract.
 -- Assumes nothing.
-use borrow.Author.Rules.{rules}
 use Rattle.lent_regions.proofs.Steps.{no_index, index_past, index_here}
 use Rattle.lent_regions.proofs.word_index.Goals as goal
 

@@ -2,10 +2,9 @@
 -- Assumes nothing.
 use borrow.Author.Rules.{rules}
 use mathlib.Core.Path.{◌≡◌, refl}
-use Prim.Native.Nat.{◌+◌, ◌*◌, ◌-◌, ◌≤◌, ◌<◌}
+use Prim.Native.Nat.{◌+◌, ◌*◌, ◌<◌}
 use native.Mathlib.Omega.{arith}
 use Rattle.rules.specs.Regions.{words_below}
-use Rattle.block.specs.Blocks.{regions_in}
 use Rattle.lent_regions.proofs.Steps.{words_at_lem}
 use Rattle.lent_regions.proofs.words_below.Goals as goal
 
