@@ -1,6 +1,5 @@
 -- `command::applied` meets its contract.
 -- Assumes nothing.
-use borrow.Author.Rules.{rules}
 use Rattle.command.proofs.applied.Goals as goal
 
 pub returns-then-is_counted : goal.returns-then-is_counted

@@ -3,7 +3,6 @@
 use mathlib.Core.Path.{◌∙◌}
 use Rattle.rules.specs.Commands.{first_with}
 use Rattle.places.specs.Turns.{first_within}
-use borrow.Author.Rules.{rules}
 use Rattle.command.proofs.by_task.Goals as goal
 
 pub returns-in-Nothing : goal.returns-in-Nothing

@@ -2,7 +2,6 @@
 -- Assumes nothing.
 use mathlib.Core.Path.{refl}
 use Rattle.decide.proofs.Commands.{command_done}
-use borrow.Author.Rules.{rules}
 use Rattle.command.proofs.command.Goals as goal
 
 pub returns : goal.returns

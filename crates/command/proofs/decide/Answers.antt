@@ -1,7 +1,6 @@
 -- `command::decide` meets its contract.
 -- Assumes nothing.
 use Rattle.decide.proofs.Commands.{step_shut, step_open}
-use borrow.Author.Rules.{rules}
 use Rattle.command.proofs.decide.Goals as goal
 
 pub returns-in-Denied : goal.returns-in-Denied

@@ -5,7 +5,6 @@ use mathlib.Core.Path.{sym}
 use Prim.Native.Nat.{◌≤◌}
 use lib.ListN.{length, get_or-eq_default}
 use Rattle.rules.specs.Regions.{no_range}
-use borrow.Author.Rules.{rules}
 use Rattle.command.proofs.pool_at.Goals as goal
 
 pub returns-else-k-lt2 : goal.returns-else-k-lt2

@@ -3,7 +3,6 @@
 use native.Mathlib.Omega.{arith}
 use Prim.Native.Nat.{◌+◌}
 use native.Mathlib.Nat.{mod-lt}
-use borrow.Author.Rules.{rules}
 use Rattle.command.proofs.raised.Goals as goal
 
 pub overflow_cast-result-2 : goal.overflow_cast-result-2

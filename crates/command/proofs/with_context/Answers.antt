@@ -1,6 +1,5 @@
 -- `command::with_context` meets its contract.
 -- Assumes nothing.
-use borrow.Author.Rules.{rules}
 use Rattle.command.proofs.with_context.Goals as goal
 
 pub returns : goal.returns

@@ -1,6 +1,5 @@
 -- `decide::answer_of` meets its contract.
 -- Assumes nothing.
-use borrow.Author.Rules.{rules}
 use Rattle.decide.proofs.answer_of.Goals as goal
 
 pub returns-in-Refuse : goal.returns-in-Refuse

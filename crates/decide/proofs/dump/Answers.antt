@@ -1,7 +1,6 @@
 -- `decide::dump` meets its contract.
 -- Assumes nothing.
 use borrow.Author.Tests.{not-true, not-false, lt-ltb, le-ltb, le-leb, lt-leb}
-use borrow.Author.Rules.{rules}
 use Rattle.decide.proofs.dump.Goals as goal
 
 pub returns-then-not-spot : goal.returns-then-not-spot

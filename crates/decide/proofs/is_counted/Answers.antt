@@ -1,6 +1,5 @@
 -- `decide::is_counted` meets its contract.
 -- Assumes nothing.
-use borrow.Author.Rules.{rules}
 use Rattle.decide.proofs.is_counted.Goals as goal
 
 pub returns-in-BadState : goal.returns-in-BadState

@@ -1,7 +1,6 @@
 -- `decide::load` meets its contract.
 -- Assumes nothing.
 use borrow.Author.Tests.{not-true, not-false}
-use borrow.Author.Rules.{rules}
 use Rattle.decide.proofs.load.Goals as goal
 
 pub returns-then-not-spot : goal.returns-then-not-spot

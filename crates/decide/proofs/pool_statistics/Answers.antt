@@ -2,7 +2,6 @@
 -- Assumes nothing.
 use borrow.Author.Tests.{eq-eqb, ne_eqb}
 use Rattle.opening.proofs.Facts.{words_cut}
-use borrow.Author.Rules.{rules}
 use Rattle.decide.proofs.pool_statistics.Goals as goal
 
 pub returns-then-pool-eq0 : goal.returns-then-pool-eq0

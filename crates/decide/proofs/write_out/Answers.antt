@@ -1,7 +1,6 @@
 -- `decide::write_out` meets its contract.
 -- Assumes nothing.
 use Rattle.decide.proofs.Facts.{words_stored, reply_put}
-use borrow.Author.Rules.{rules}
 use Rattle.decide.proofs.write_out.Goals as goal
 
 pub returns-in-Load : goal.returns-in-Load

@@ -1,7 +1,6 @@
 -- `lent_command::apply` meets its contract.
 -- Assumes nothing.
 use mathlib.Core.Path.{sym, ◌∙◌}
-use borrow.Author.Rules.{rules}
 use Rattle.lent_command.proofs.apply.Goals as goal
 
 pub returns-then-is_counted : goal.returns-then-is_counted

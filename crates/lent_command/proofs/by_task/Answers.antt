@@ -4,7 +4,6 @@ use native.Mathlib.Omega.{arith}
 use Rattle.block.proofs.GoodWords.{state_is, block_words}
 use Rattle.lent_state.proofs.Uses.{with_in, idle_in}
 use Rattle.lent_command.proofs.Steps.{pool_decided, value_decided}
-use borrow.Author.Rules.{rules}
 use Rattle.lent_command.proofs.by_task.Goals as goal
 
 pub slice_bounds-ps-end : goal.slice_bounds-ps-end

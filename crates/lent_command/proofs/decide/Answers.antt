@@ -5,7 +5,6 @@ use lib.ListN.{length}
 use Rattle.lists.proofs.Tests.{and_both}
 use Rattle.block.proofs.GoodWords.{is_block_lem, is_good}
 use Rattle.lent_command.proofs.Steps.{opened_on, opened_some}
-use borrow.Author.Rules.{rules}
 use Rattle.lent_command.proofs.decide.Goals as goal
 
 pub by_task-requires : goal.by_task-requires

@@ -2,7 +2,6 @@
 -- Assumes nothing.
 use mathlib.Core.Path.{refl}
 use Rattle.lent_command.proofs.Steps.{command_left}
-use borrow.Author.Rules.{rules}
 use Rattle.lent_command.proofs.tested.Goals as goal
 
 pub returns : goal.returns

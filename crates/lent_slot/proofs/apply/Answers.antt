@@ -1,6 +1,5 @@
 -- `lent_slot::apply` meets its contract.
 -- Assumes nothing.
-use borrow.Author.Rules.{rules}
 use Rattle.lent_slot.proofs.apply.Goals as goal
 
 pub returns-in-Send : goal.returns-in-Send

@@ -4,7 +4,6 @@ use native.Mathlib.Omega.{arith}
 use Rattle.block.proofs.GoodWords.{block_is, state_is, block_words}
 use Rattle.lent_state.proofs.Uses.{turn_in}
 use Rattle.lent_slot.proofs.Steps.{sent_on}
-use borrow.Author.Rules.{rules}
 use Rattle.lent_slot.proofs.by_turn.Goals as goal
 
 pub slice_bounds-next_turn-end : goal.slice_bounds-next_turn-end

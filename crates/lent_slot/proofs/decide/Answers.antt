@@ -5,7 +5,6 @@ use Rattle.lists.proofs.Tests.{and_both}
 use Rattle.block.proofs.GoodWords.{is_block_lem, is_good}
 use Rattle.opening.proofs.Lent.{lent_some}
 use Rattle.lent_slot.proofs.Steps.{sending_on_lem}
-use borrow.Author.Rules.{rules}
 use Rattle.lent_slot.proofs.decide.Goals as goal
 
 pub by_turn-requires : goal.by_turn-requires

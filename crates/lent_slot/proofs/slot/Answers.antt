@@ -2,7 +2,6 @@
 -- Assumes nothing.
 use mathlib.Core.Path.{refl}
 use Rattle.lent_slot.proofs.Steps.{slot_left}
-use borrow.Author.Rules.{rules}
 use Rattle.lent_slot.proofs.slot.Goals as goal
 
 pub returns : goal.returns

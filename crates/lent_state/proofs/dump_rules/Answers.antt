@@ -3,7 +3,6 @@
 use mathlib.Core.Path.{◌∙◌}
 use Rattle.block.specs.Blocks.{regions_in}
 use Rattle.lent_state.proofs.Steps.{dump_refused, dump_tested}
-use borrow.Author.Rules.{rules}
 use Rattle.lent_state.proofs.dump_rules.Goals as goal
 
 pub returns-then-not-dump_fields : goal.returns-then-not-dump_fields

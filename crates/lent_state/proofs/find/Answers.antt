@@ -1,6 +1,5 @@
 -- `lent_state::find` meets its contract.
 -- Assumes nothing.
-use borrow.Author.Rules.{rules}
 use mathlib.Core.Path.{refl}
 use native.Mathlib.Omega.{arith}
 use Rattle.block.proofs.GoodWords.{block_is, state_is, block_words}

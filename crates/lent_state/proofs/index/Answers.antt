@@ -1,6 +1,5 @@
 -- `lent_state::index` meets its contract.
 -- Assumes nothing.
-use borrow.Author.Rules.{rules}
 use native.Mathlib.Omega.{arith}
 use Rattle.block.proofs.GoodWords.{block_is, block_words}
 use Rattle.lent_state.proofs.Uses.{index_in}

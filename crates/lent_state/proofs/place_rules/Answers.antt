@@ -2,7 +2,6 @@
 -- Assumes nothing.
 use Rattle.block.specs.Blocks.{regions_in}
 use Rattle.lent_state.proofs.Steps.{place_refused, place_idle, place_busy}
-use borrow.Author.Rules.{rules}
 use Rattle.lent_state.proofs.place_rules.Goals as goal
 
 pub returns-then-not-place_bounds : goal.returns-then-not-place_bounds

@@ -1,16 +1,11 @@
 -- `lent_state::places_rules` meets its contract.
 -- Assumes nothing.
-use mathlib.Core.Path.{◌≡◌, sym, ◌∙◌}
+use mathlib.Core.Path.{◌≡◌}
 use mathlib.Core.Bool.{true}
 use Prim.Native.Nat.{◌-◌, ◌≤◌}
-use native.Mathlib.Omega.{arith}
-use borrow.Author.Tests.{not-true, not-false}
 use Rattle.lists.specs.Below.{all_below}
-use Rattle.lists.proofs.Below.{all_more}
 use Rattle.block.specs.Blocks.{regions_in}
 use Rattle.lent_state.specs.Tests.{place_tests}
-use Rattle.lent_state.proofs.Steps.{some_not}
-use borrow.Author.Rules.{rules}
 use Rattle.lent_state.proofs.places_rules.Given as goal
 
 abbrev pub invariant-loop-i : goal.invariant-loop-i

@@ -3,7 +3,6 @@
 use mathlib.Core.Path.{◌∙◌}
 use Rattle.block.specs.Blocks.{regions_in}
 use Rattle.lent_state.proofs.Steps.{pool_none, pool_odd, pool_some}
-use borrow.Author.Rules.{rules}
 use Rattle.lent_state.proofs.pool_rules.Goals as goal
 
 pub returns-then-p-eq0 : goal.returns-then-p-eq0

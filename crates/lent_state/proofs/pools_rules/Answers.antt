@@ -1,6 +1,5 @@
 -- `lent_state::pools_rules` meets its contract.
 -- Assumes nothing.
-use borrow.Author.Rules.{rules}
 use Rattle.lent_state.proofs.pools_rules.Goals as goal
 
 pub returns : goal.returns

@@ -1,7 +1,6 @@
 -- `lent_state::put_none` meets its contract.
 -- Assumes nothing.
 use Rattle.lent_state.proofs.Started.{none_is}
-use borrow.Author.Rules.{rules}
 use Rattle.lent_state.proofs.put_none.Goals as goal
 
 pub returns : goal.returns

@@ -2,7 +2,6 @@
 -- Assumes nothing.
 use mathlib.Core.Path.{refl}
 use Rattle.lent_state.proofs.Started.{all_written}
-use borrow.Author.Rules.{rules}
 use Rattle.lent_state.proofs.put_table.Goals as goal
 
 pub returns : goal.returns

@@ -1,7 +1,6 @@
 -- `lent_state::start_up` meets its contract.
 -- Assumes nothing.
 use mathlib.Core.Path.{sym, ◌∙◌}
-use borrow.Author.Tests.{not-false}
 use Rattle.lent_state.proofs.Started.{count_low, other_state, other_table, not_taken, taken}
 use borrow.Author.Rules.{rules}
 use Rattle.lent_state.proofs.start_up.Goals as goal

@@ -1,6 +1,5 @@
 -- `lent_state::word_rules` meets its contract.
 -- Assumes nothing.
-use borrow.Author.Rules.{rules}
 use Rattle.lent_state.proofs.word_rules.Goals as goal
 
 pub returns : goal.returns

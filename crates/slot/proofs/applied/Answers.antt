@@ -3,7 +3,6 @@
 use native.Mathlib.Omega.{arith}
 use mathlib.Core.Path.{◌≡◌}
 use Prim.Native.Nat.{◌%◌, ◌<◌}
-use borrow.Author.Rules.{rules}
 use Rattle.slot.proofs.applied.Goals as goal
 
 pub returns-in-Keep : goal.returns-in-Keep

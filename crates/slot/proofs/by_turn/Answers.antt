@@ -1,6 +1,5 @@
 -- `slot::by_turn` meets its contract.
 -- Assumes nothing.
-use borrow.Author.Rules.{rules}
 use Rattle.slot.proofs.by_turn.Goals as goal
 
 pub returns-in-Nobody : goal.returns-in-Nobody

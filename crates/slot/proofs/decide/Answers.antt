@@ -1,7 +1,6 @@
 -- `slot::decide` meets its contract.
 -- Assumes nothing.
 use Rattle.sending.proofs.Slots.{step_refused, step_turn}
-use borrow.Author.Rules.{rules}
 use Rattle.slot.proofs.decide.Goals as goal
 
 pub returns-in-Rejected : goal.returns-in-Rejected

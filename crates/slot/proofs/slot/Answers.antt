@@ -2,7 +2,6 @@
 -- Assumes nothing.
 use mathlib.Core.Path.{refl}
 use Rattle.sending.proofs.Slots.{slot_done}
-use borrow.Author.Rules.{rules}
 use Rattle.slot.proofs.slot.Goals as goal
 
 pub returns : goal.returns
