@@ -2,7 +2,6 @@
 -- Assumes nothing.
 use mathlib.Core.Path.{refl}
 use lib.ListN.{replicate}
-use borrow.Author.Rules.{rules}
 use Rattle.batches.specs.Batch.{lends, on_state}
 use Rattle.batches.proofs.Whole.{room_long, given, not_given}
 use Rattle.batch.proofs.answered.Goals as goal

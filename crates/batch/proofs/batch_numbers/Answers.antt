@@ -1,6 +1,5 @@
 -- `batch::batch_numbers` meets its contract: the verdict says which of the two cases of the definition it is.
 -- Assumes nothing.
-use borrow.Author.Rules.{rules}
 use Rattle.batches.specs.Batch.{BatchArgs, lends, on_state}
 use Rattle.batches.proofs.Whole.{fits, refused, accepted}
 use Rattle.batch.proofs.batch_numbers.Goals as goal

@@ -3,7 +3,6 @@
 use mathlib.Core.Path.{◌≡◌}
 use Prim.Native.Nat.{◌+◌, ◌*◌, ◌-◌}
 use native.Mathlib.Omega.{arith}
-use borrow.Author.Rules.{rules}
 use Rattle.batches.specs.Batch.{on_state}
 use Rattle.batches.proofs.Items.{item_done}
 use Rattle.batch.proofs.Items.{within, called}

@@ -1,13 +1,12 @@
 -- `batch::run` meets its contract. The loop's invariant: items 0 to i - 1 left what is there (`Upto`), and its measure is the items left.
 -- Assumes nothing.
 use mathlib.Core.Path.{◌≡◌}
-use Prim.Native.Nat.{◌-◌, min}
+use Prim.Native.Nat.{min}
 use native.Mathlib.Omega.{arith}
 use lib.ListN.{length}
-use borrow.Author.Rules.{rules}
 use Rattle.batches.specs.Batch.{BatchArgs, lends, on_state}
 use Rattle.batches.specs.InOrder.{Fits}
-use Rattle.batches.proofs.Turns.{fits, Upto, starts, turn, all}
+use Rattle.batches.proofs.Turns.{fits, starts, turn, all}
 use Rattle.batch.proofs.run.Goals as goal
 use Rattle.batch.proofs.run.Goals.{Start}
 

@@ -1,17 +1,13 @@
 -- `batch::run` meets its contract. The loop's invariant: items 0 to i - 1 left what is there (`Upto`), and its measure is the items left.
 -- Assumes nothing.
-use mathlib.Core.Path.{◌≡◌}
-use Prim.Native.Nat.{◌-◌, min}
-use native.Mathlib.Omega.{arith}
+use Prim.Native.Nat.{◌-◌}
 use lib.ListN.{length}
-use borrow.Author.Rules.{rules}
-use Rattle.batches.specs.Batch.{BatchArgs, lends, on_state}
-use Rattle.batches.specs.InOrder.{Fits}
-use Rattle.batches.proofs.Turns.{fits, Upto, starts, turn, all}
+use Rattle.batches.specs.Batch.{lends, on_state}
+use Rattle.batches.proofs.Turns.{Upto}
 use Rattle.batch.proofs.run.Given as goal
 
 abbrev pub invariant-loop-i : goal.invariant-loop-i
-invariant-loop-i l =     Upto on_state (lends l.bytes l.starts l.lengths l.symbols l.initial.image l.initial.replies) l.initial.numbers l.initial.sizes l.initial.state l.i l.state l.image l.replies l.numbers l.sizes
+invariant-loop-i l = Upto on_state (lends l.bytes l.starts l.lengths l.symbols l.initial.image l.initial.replies) l.initial.numbers l.initial.sizes l.initial.state l.i l.state l.image l.replies l.numbers l.sizes
 
 abbrev pub decreases-loop-i : goal.decreases-loop-i
-decreases-loop-i l =     length l.starts - l.i
+decreases-loop-i l = length l.starts - l.i

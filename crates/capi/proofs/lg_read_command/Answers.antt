@@ -1,7 +1,6 @@
 -- `capi::lg_read_command` meets its contract.
 -- Assumes nothing.
 use Rattle.capi.proofs.Reading.{command_other, command_unread, command_done}
-use borrow.Author.Rules.{rules}
 use Rattle.capi.proofs.lg_read_command.Goals as goal
 
 pub returns-then-command-ne21 : goal.returns-then-command-ne21

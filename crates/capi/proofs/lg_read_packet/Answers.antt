@@ -2,7 +2,6 @@
 -- Assumes nothing.
 use native.Mathlib.Omega.{arith}
 use Rattle.capi.proofs.Reading.{packet_other, packet_unread, packet_done, packet_low}
-use borrow.Author.Rules.{rules}
 use Rattle.capi.proofs.lg_read_packet.Goals as goal
 
 pub returns-then-fields-ne8 : goal.returns-then-fields-ne8

@@ -1,7 +1,6 @@
 -- `capi::lg_write_command` meets its contract.
 -- Assumes nothing.
 use Rattle.capi.proofs.Writing.{write_other, write_unknown, write_done}
-use borrow.Author.Rules.{rules}
 use Rattle.capi.proofs.lg_write_command.Goals as goal
 
 pub returns-then-command-ne21 : goal.returns-then-command-ne21

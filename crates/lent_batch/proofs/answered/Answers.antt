@@ -2,7 +2,6 @@
 -- Assumes nothing.
 use mathlib.Core.Path.{refl, ap, ◌∙◌}
 use lib.ListN.{replicate}
-use borrow.Author.Rules.{rules}
 use Rattle.rules.specs.Results.{verdict_number}
 use Rattle.batches.specs.Batch.{lends}
 use Rattle.batches.proofs.Whole.{room_long, given, not_given}

@@ -1,6 +1,5 @@
 -- `lent_batch::commands` meets its contract: the verdict says which of the two cases of the definition it is.
 -- Assumes nothing.
-use borrow.Author.Rules.{rules}
 use Rattle.batches.specs.Batch.{BatchArgs, lends}
 use Rattle.batches.proofs.Whole.{fits, refused, accepted}
 use Rattle.lent_batch.specs.Batches.{on_block}

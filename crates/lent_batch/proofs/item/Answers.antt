@@ -10,7 +10,6 @@ use Rattle.batches.proofs.Items.{item_done}
 use Rattle.block.specs.Calls.{good_words}
 use Rattle.lent_batch.specs.Batches.{on_block}
 use Rattle.lent_batch.proofs.Kept.{within, words_kept}
-use borrow.Author.Rules.{rules}
 use Rattle.lent_batch.proofs.item.Goals as goal
 
 pub returns : goal.returns

@@ -1,7 +1,6 @@
 -- `lent_batch::known_for` meets its contract.
 -- Assumes nothing.
 use mathlib.Core.Path.{subst⁻¹}
-use borrow.Author.Rules.{rules}
 use Rattle.symbols.specs.Answers.{KnownOf}
 use Rattle.symbols.specs.declared.Known.{Known}
 use Rattle.symbols.proofs.Logic.{known_right}

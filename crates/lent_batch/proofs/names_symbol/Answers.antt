@@ -1,6 +1,6 @@
 -- `lent_batch::names_symbol` ends, and reads within the lists: its measure is the items left.
 -- Assumes nothing.
-use Prim.Native.Nat.{◌-◌, ◌<◌}
+use Prim.Native.Nat.{◌<◌}
 use lib.Dec.{ltb}
 use lib.ListN.{length}
 use borrow.Author.Rules.{rules}

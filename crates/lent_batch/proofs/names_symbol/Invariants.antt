@@ -1,11 +1,7 @@
 -- `lent_batch::names_symbol` ends, and reads within the lists: its measure is the items left.
 -- Assumes nothing.
-use Prim.Native.Nat.{◌-◌, ◌<◌}
-use lib.Dec.{ltb}
+use Prim.Native.Nat.{◌-◌}
 use lib.ListN.{length}
-use borrow.Author.Rules.{rules}
-use borrow.Author.Tests.{ltb-true}
-use Rattle.lists.proofs.Tests.{and_left, and_right}
 use Rattle.lent_batch.proofs.names_symbol.Given as goal
 
 abbrev pub invariant-loop-i : goal.invariant-loop-i

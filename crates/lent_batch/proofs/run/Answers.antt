@@ -2,14 +2,12 @@
 -- said at the start; its measure is the items left.
 -- Assumes nothing.
 use mathlib.Core.Path.{◌≡◌, refl, sym, ◌∙◌}
-use Prim.Native.Nat.{◌-◌, min}
+use Prim.Native.Nat.{min}
 use native.Mathlib.Omega.{arith}
 use lib.ListN.{length}
-use borrow.Author.Rules.{rules}
 use Rattle.batches.specs.Batch.{BatchArgs, lends}
 use Rattle.batches.specs.InOrder.{Fits}
-use Rattle.batches.proofs.Turns.{fits, Upto, starts, turn, all}
-use Rattle.block.specs.Calls.{good_words}
+use Rattle.batches.proofs.Turns.{fits, starts, turn, all}
 use Rattle.lent_batch.specs.Batches.{on_block}
 use Rattle.lent_batch.proofs.run.Goals as goal
 use Rattle.lent_batch.proofs.run.Goals.{Start}
