@@ -1,6 +1,6 @@
 -- What the command writer and the two readers are to C: the ground's calls over blocks of words. With FromC this fixes what the definitions of the
 -- calls from C share with the code.
-use Rattle.std.specs.Prelude.{◌≡◌, ◌≢◌, true, false, cond, List, [], ◌∷◌, ◌++◌, map, ℕ, ◌≤◌, ◌<◌, leb, eqb, length, get_or, take, drop, replicate}
+use Rattle.std.specs.Prelude.{◌≡◌, ◌≢◌, true, false, cond, List, [], ◌∷◌, ◌++◌, map, ℕ, ◌<◌, leb, eqb, length, get_or, take, drop, replicate}
 use Rattle.rules.specs.Cases.{one_of}
 use Rattle.rules.specs.Ground.{write_command, read_command, read_packet}
 use Rattle.rules.specs.Results.{number, answer_number, answer_length}

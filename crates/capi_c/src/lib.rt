@@ -64,7 +64,9 @@ pub extern "C" fn lg_commands(
         × LeftAs (lg_commands state.old (lends bytes.now starts.now lengths.now symbols.now image.old replies.old) (length answers.old)) state.new image.new replies.new
         × (answers.new ≡ filled answers.old (lg_commands state.old (lends bytes.now starts.now lengths.now symbols.now image.old replies.old) (length answers.old)).left.answers) }
 {
-    capi::lg_commands(state, bytes, starts, lengths, symbols, image, replies, answers)
+    capi::lg_commands(
+        state, bytes, starts, lengths, symbols, image, replies, answers,
+    )
 }
 
 // THE COMMAND WRITER
