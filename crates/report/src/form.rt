@@ -48,7 +48,11 @@ fn mark(rt: &impl Print, c: u8, n: u64) -> io::Result<usize>
 fn mark_of(rt: &impl Print, c: u8, n: u64, asked: bool) -> io::Result<usize>
     ensures { IfOk result (λ taken. taken ≤ 1) }
 {
-    if asked & (c != b'|') { mark(rt, c, n) } else { Ok(0) }
+    if asked & (c != b'|') {
+        mark(rt, c, n)
+    } else {
+        Ok(0)
+    }
 }
 
 // Prints one of the forms that bars part, counted from 0. A mark in it stands for the next number: `%` for it in decimal, `$` and `#` in hex
