@@ -14,8 +14,8 @@ use Rattle.dump_check.proofs.check_dump.Goals.{After-first_unmarked-k, After-rea
 fit : (c : Else-is_unfit) → unfit c.args.bytes.now c.args.lengths.now ≡ false
 fit c = sym c.is_unfit.ensures ∙ c.if-is_unfit.false
 
-few-packets : (c : Else-is_unfit) → packet_count c.args.lengths.now ≤ 65
-few-packets c = packets_few c.args.bytes.now c.args.lengths.now (fit c)
+few_packets : (c : Else-is_unfit) → packet_count c.args.lengths.now ≤ 65
+few_packets c = packets_few c.args.bytes.now c.args.lengths.now (fit c)
 
 -- every packet is sound, and the first has its header
 long : (c : Else-i-n) → 28 ≤ length c.args.bytes.now
@@ -50,13 +50,13 @@ returns-then-n-eq0 c =
     number_none a.bytes.now a.lengths.now (fit (goal.at.returns-then-n-eq0 c).Else-is_unfit) c.if-n-eq0.true
 
 pub sound_packets-i-requires : goal.sound_packets-i-requires
-sound_packets-i-requires c = (few-packets (goal.at.sound_packets-i-requires c).Else-is_unfit, refl)
+sound_packets-i-requires c = (few_packets (goal.at.sound_packets-i-requires c).Else-is_unfit, refl)
 
 pub overflow_cast-result : goal.overflow_cast-result
-overflow_cast-result c = let f = few-packets (goal.at.overflow_cast-result c).Else-is_unfit in search rules
+overflow_cast-result c = let f = few_packets (goal.at.overflow_cast-result c).Else-is_unfit in search rules
 
 pub overflow_add-result : goal.overflow_add-result
-overflow_add-result c = let f = few-packets (goal.at.overflow_add-result c).Else-is_unfit in search rules
+overflow_add-result c = let f = few_packets (goal.at.overflow_add-result c).Else-is_unfit in search rules
 
 pub returns-then-i-n : goal.returns-then-i-n
 returns-then-i-n c =
