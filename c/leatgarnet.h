@@ -1,7 +1,7 @@
 /* The C interface of the memory service (paper 01; paper 02, A1 to A6), for x86-64. Nothing is allocated and nothing is kept between calls: all state
  * is in the block that the caller lends, so that calls on blocks of their own may run at the same time. The library needs `memset` and nothing else.
- * Stack, as measured on x86-64: start-up 144 bytes, a command 440, a batch 664, a slot 288, the command writer and reader 64 each, the dump packet reader 48,
- * the check of a dump 136; each alias that a symbol is resolved through takes 32 more, so that a command with the longest chain, of 255, takes 8.6 kB.
+ * Stack, as measured on x86-64: start-up 120 bytes, a command 416, a batch 584, a slot 216, the command writer 80, the command reader 144, the dump packet
+ * reader 64, the check of a dump 144; a symbol takes as much whether it is resolved through no alias or through the longest chain, of 255.
  * Each call returns a result number of the papers. What a call asks of its caller:
  *   - a pointer and its length say what is lent; a length of 0 lends nothing, and its pointer may be anything;
  *   - words and answer records are aligned to 4 bytes;
