@@ -12,7 +12,7 @@ pub struct ItemAnswer {
     pub length: u32,
 }
 
-// The answers of up to 64 items: the first `filled` numbers and lengths.
+// The answers of up to 64 items: the first `filled` numbers and lengths. Kept: arrays and a count, since there is no heap and C gets bytes.
 #[derive(Clone, Copy)]
 pub struct Answered {
     pub number: u32,
@@ -21,28 +21,20 @@ pub struct Answered {
     pub filled: usize,
 }
 
-fn wide(x: u8) -> u32
-    ensures { result ≡ x }
-{
-    x as u32
-}
-
 // Byte i; past the end, zero.
 fn entry(bytes: &[u8], i: usize) -> u32
     ensures { result ≡ get_or bytes.now i 0 }
 {
-    if i < bytes.len() { wide(bytes[i]) } else { 0 }
+    u32::from(bytes.get(i).copied().unwrap_or(0))
 }
 
 // Record i of these numbers and lengths; past their end, zeros.
 fn record_at(numbers: &[u8], lengths: &[u8], i: usize) -> ItemAnswer
     ensures { result ≡ record_at (answers_of numbers.now lengths.now) i }
 {
-    let number = entry(numbers, i);
-    let length = entry(lengths, i);
     ItemAnswer {
-        number: number,
-        length: length,
+        number: entry(numbers, i),
+        length: entry(lengths, i),
     }
 }
 
@@ -57,28 +49,16 @@ pub fn number_of(a: Answered) -> u32
 pub fn written(a: Answered, room: usize) -> usize
     ensures { result ≡ min a.filled room }
 {
-    if a.filled < room { a.filled } else { room }
+    a.filled.min(room)
 }
 
-// The first n records of a lent list.
-fn put_first(answers: &mut [ItemAnswer], numbers: &[u8], lengths: &[u8], n: usize)
-    requires { n ≤ length answers.old }
-    ensures { answers.new ≡ put_records answers.old (answers_of numbers.now lengths.now) n }
-{
-    let mut i: usize = 0;
-    while i < n {
-        let r = record_at(numbers, lengths, i);
-        answers[i] = r;
-        i += 1;
-    }
-}
-
-// The first records of a lent list. The numbers and the lengths are copied once, and not for each record.
+// The first records of a lent list. Kept: the two lists as values of their own, since a batch then has them once on its stack, and not in `a` too.
 pub fn put_records(answers: &mut [ItemAnswer], a: Answered)
     ensures { answers.new ≡ put_records answers.old a (min a.filled (length answers.old)) }
 {
-    let n = written(a, answers.len());
     let numbers = a.numbers;
     let lengths = a.lengths;
-    put_first(answers, &numbers, &lengths, n);
+    for i in 0..written(a, answers.len()) {
+        answers[i] = record_at(&numbers, &lengths, i);
+    }
 }

@@ -1,54 +1,68 @@
-// Many commands in one call on a State (paper 02, A1): the single calls in order.
+// Many commands in one call (paper 02, A1): the single calls in order, on what keeps a state. On a State they are the batch. The store is tested once;
+// and so is the symbol table, which no command writes.
 #![tactic(auto)]
 
 ghost use Rattle.std.specs.Prelude.{◌≡◌, false, ◌+◌, ◌*◌, ◌≤◌, ◌<◌, min, length, set, take, drop};
 ghost use Rattle.lists.specs.Splice.{splice};
 ghost use Rattle.rules.specs.Results.{verdict_number};
 ghost use Rattle.batches.specs.Batch.{lends, on_state, unfit_by, left_by, batch, LeftAs, filled, numbers_of, lengths_of, Answers};
+ghost use Rattle.batch.specs.OnStore.{single_in, words_in, WordsStay};
 
 use answers::{Answered, ItemAnswer, put_records};
-use batches::{BatchReturned, batch_verdict, bytes_from, lesser};
-use command::command;
-use results::{answer_length, answer_number, verdict_number};
-use rules::{State, Verdict};
+use batches::{BatchReturned, batch_verdict, bytes_from};
+use command::call;
+use packet::{code, function_code};
+use results::{answer_length, number_of};
+use rules::{Refusal, State};
+use state::Store;
+use symbols::Symbols;
 
-// What a batch returns, and its answers by value.
-#[derive(Clone, Copy)]
-struct BatchAnswered {
-    returned: BatchReturned,
-    answers: Answered,
-}
-
-// Item i, whose number and reply length go to the two lists: the state after it.
-fn item(
-    s: State,
+// Item i on a store that was tested; its number and reply length go to the two lists.
+fn item<S: Store>(
+    s: &mut S,
+    words: usize,
     packet: &[u8],
-    symbols: &[u8],
+    symbols: &Symbols,
     image: &mut [u32],
     replies: &mut [u8],
     numbers: &mut [u8],
     sizes: &mut [u8],
     i: usize,
-) -> State
-    requires { (32 * i + 32 ≤ length replies.old) × (i < length numbers.old) × (i < length sizes.old) }
-    ensures { (result ≡ (on_state s (record { packet = packet.entry.now; symbols = symbols.now; image = image.old; reply = take 32 (drop (32 * i) replies.old) })).state)
-        × (image.new ≡ (on_state s (record { packet = packet.entry.now; symbols = symbols.now; image = image.old; reply = take 32 (drop (32 * i) replies.old) })).image)
-        × (replies.new ≡ splice replies.old (32 * i) (on_state s (record { packet = packet.entry.now; symbols = symbols.now; image = image.old; reply = take 32 (drop (32 * i) replies.old) })).reply)
-        × (numbers.new ≡ set numbers.old i (on_state s (record { packet = packet.entry.now; symbols = symbols.now; image = image.old; reply = take 32 (drop (32 * i) replies.old) })).number)
-        × (sizes.new ≡ set sizes.old i (on_state s (record { packet = packet.entry.now; symbols = symbols.now; image = image.old; reply = take 32 (drop (32 * i) replies.old) })).length) }
+)
+    requires { (words ≡ words_in S.is_good S.state S.changes s.old) × (32 * i + 32 ≤ length replies.old) × (i < length numbers.old) × (i < length sizes.old)
+        × WordsStay S.is_good S.state S.changes }
+    ensures { let o = single_in S.is_good S.state S.changes s.old (record { packet = packet.entry.now; symbols = symbols.now.bytes.now; image = image.old; reply = take 32 (drop (32 * i) replies.old) }) in
+        (s.new ≡ o.state) × (image.new ≡ o.image) × (replies.new ≡ splice replies.old (32 * i) o.reply) × (numbers.new ≡ set numbers.old i o.number) × (sizes.new ≡ set sizes.old i o.length)
+        × (words ≡ words_in S.is_good S.state S.changes s.new) }
 {
     let from = 32 * i;
     let end = from + 32;
-    let r = command(s, packet, symbols, image, &mut replies[from..end]);
-    let answer = r.answer;
-    numbers[i] = (answer_number(answer) % 256) as u8;
+    let answer = call(s, words, packet, symbols, image, &mut replies[from..end]);
+    numbers[i] = (number_of(&answer) % 256) as u8;
     sizes[i] = (answer_length(answer) % 256) as u8;
-    r.state
 }
 
-// The items in order: the state after the last.
-fn run(
-    s: State,
+// Whether an item may name a symbol, by its function code.
+fn names_symbol(bytes: &[u8], starts: &[u32], lengths: &[u32]) -> bool {
+    starts.iter().zip(lengths).any(|(start, length)| {
+        let packet = bytes_from(bytes, *start, *length);
+        matches!(function_code(packet), code::VALUE | code::NAMED_DUMP)
+    })
+}
+
+// The symbol table is tested once for all items, and only if one may name a symbol.
+fn symbols_for<'a>(bytes: &[u8], starts: &[u32], lengths: &[u32], symbols: &'a [u8]) -> Symbols<'a>
+    ensures { result.bytes.now ≡ symbols.now }
+{
+    if names_symbol(bytes, starts, lengths) {
+        return Symbols::tested(symbols);
+    }
+    Symbols::untested(symbols)
+}
+
+// The items in order. The store is tested once, since a command leaves a good state good and any other as it was.
+fn run<S: Store>(
+    s: &mut S,
     bytes: &[u8],
     starts: &[u32],
     lengths: &[u32],
@@ -57,25 +71,84 @@ fn run(
     replies: &mut [u8],
     numbers: &mut [u8],
     sizes: &mut [u8],
-) -> State
-    requires { unfit_by (length starts.now) (length lengths.now) (min (length numbers.old) (length sizes.old)) (length replies.old) ≡ false }
-    ensures { (result ≡ (left_by on_state (lends bytes.now starts.now lengths.now symbols.now image.old replies.old) s (length starts.now)).state)
-        × (image.new ≡ (left_by on_state (lends bytes.now starts.now lengths.now symbols.now image.old replies.old) s (length starts.now)).image)
-        × (replies.new ≡ (left_by on_state (lends bytes.now starts.now lengths.now symbols.now image.old replies.old) s (length starts.now)).replies)
-        × (numbers.new ≡ filled numbers.old (numbers_of (left_by on_state (lends bytes.now starts.now lengths.now symbols.now image.old replies.old) s (length starts.now)).answers))
-        × (sizes.new ≡ filled sizes.old (lengths_of (left_by on_state (lends bytes.now starts.now lengths.now symbols.now image.old replies.old) s (length starts.now)).answers)) }
+)
+    requires { (unfit_by (length starts.now) (length lengths.now) (min (length numbers.old) (length sizes.old)) (length replies.old) ≡ false) × WordsStay S.is_good S.state S.changes }
+    ensures { let left = left_by (single_in S.is_good S.state S.changes) (lends bytes.now starts.now lengths.now symbols.now image.old replies.old) s.old (length starts.now) in
+        (s.new ≡ left.state) × (image.new ≡ left.image) × (replies.new ≡ left.replies) × (numbers.new ≡ filled numbers.old (numbers_of left.answers))
+        × (sizes.new ≡ filled sizes.old (lengths_of left.answers)) }
 {
-    let mut state = s;
-    let mut i: usize = 0;
-    while i < starts.len() {
+    let words = s.good_words();
+    let table = symbols_for(bytes, starts, lengths, symbols);
+    for i in 0..starts.len() {
         let packet = bytes_from(bytes, starts[i], lengths[i]);
-        state = item(state, packet, symbols, image, replies, numbers, sizes, i);
-        i += 1;
+        item(s, words, packet, &table, image, replies, numbers, sizes, i);
     }
-    state
 }
 
-// The batch, with each item's number and reply length in two lists.
+// The batch on a store, with each item's number and reply length in two lists. Kept: lists in step, as C lends them.
+pub fn numbered<S: Store>(
+    s: &mut S,
+    bytes: &[u8],
+    starts: &[u32],
+    lengths: &[u32],
+    symbols: &[u8],
+    image: &mut [u32],
+    replies: &mut [u8],
+    numbers: &mut [u8],
+    sizes: &mut [u8],
+) -> Result<(), Refusal>
+    requires { WordsStay S.is_good S.state S.changes }
+    ensures { let o = batch (single_in S.is_good S.state S.changes) s.old (lends bytes.now starts.now lengths.now symbols.now image.old replies.old) (min (length numbers.old) (length sizes.old)) in
+        (result ≡ o.verdict) × LeftAs o s.new image.new replies.new × (numbers.new ≡ filled numbers.old (numbers_of o.left.answers)) × (sizes.new ≡ filled sizes.old (lengths_of o.left.answers)) }
+{
+    let records = numbers.len().min(sizes.len());
+    batch_verdict(starts.len(), lengths.len(), records, replies.len())?;
+    run(
+        s, bytes, starts, lengths, symbols, image, replies, numbers, sizes,
+    );
+    Ok(())
+}
+
+// The batch on a store, with the answers by value for a list of so many records.
+pub fn answered<S: Store>(
+    s: &mut S,
+    bytes: &[u8],
+    starts: &[u32],
+    lengths: &[u32],
+    symbols: &[u8],
+    image: &mut [u32],
+    replies: &mut [u8],
+    records: usize,
+) -> Answered
+    requires { WordsStay S.is_good S.state S.changes }
+    ensures { let o = batch (single_in S.is_good S.state S.changes) s.old (lends bytes.now starts.now lengths.now symbols.now image.old replies.old) records in
+        (result.number ≡ verdict_number o.verdict) × Answers result records o.left.answers × LeftAs o s.new image.new replies.new }
+{
+    let mut numbers: [u8; 64] = [0; 64];
+    let mut sizes: [u8; 64] = [0; 64];
+    let room = records.min(64);
+    let verdict = numbered(
+        s,
+        bytes,
+        starts,
+        lengths,
+        symbols,
+        image,
+        replies,
+        &mut numbers[..room],
+        &mut sizes[..room],
+    );
+    let number = number_of(&verdict);
+    let filled = if number == 0 { starts.len() } else { 0 };
+    Answered {
+        number,
+        numbers,
+        lengths: sizes,
+        filled,
+    }
+}
+
+// The batch on a State, with each item's number and reply length in two lists.
 pub fn batch_numbers(
     s: State,
     bytes: &[u8],
@@ -92,73 +165,14 @@ pub fn batch_numbers(
         × (numbers.new ≡ filled numbers.old (numbers_of (batch on_state s (lends bytes.now starts.now lengths.now symbols.now image.old replies.old) (min (length numbers.old) (length sizes.old))).left.answers))
         × (sizes.new ≡ filled sizes.old (lengths_of (batch on_state s (lends bytes.now starts.now lengths.now symbols.now image.old replies.old) (min (length numbers.old) (length sizes.old))).left.answers)) }
 {
-    let records = lesser(numbers.len(), sizes.len());
-    let verdict = batch_verdict(starts.len(), lengths.len(), records, replies.len());
-    match verdict {
-        Verdict::Rejected(_) => BatchReturned { verdict, state: s },
-        Verdict::Accepted => {
-            let state = run(
-                s, bytes, starts, lengths, symbols, image, replies, numbers, sizes,
-            );
-            BatchReturned { verdict, state }
-        }
-    }
-}
-
-// The batch, with the answers by value for a list of so many records.
-fn answered(
-    s: State,
-    bytes: &[u8],
-    starts: &[u32],
-    lengths: &[u32],
-    symbols: &[u8],
-    image: &mut [u32],
-    replies: &mut [u8],
-    records: usize,
-) -> BatchAnswered
-    ensures { (result.returned.verdict ≡ (batch on_state s (lends bytes.now starts.now lengths.now symbols.now image.old replies.old) records).verdict)
-        × Answers result.answers records (batch on_state s (lends bytes.now starts.now lengths.now symbols.now image.old replies.old) records).left.answers
-        × LeftAs (batch on_state s (lends bytes.now starts.now lengths.now symbols.now image.old replies.old) records) result.returned.state image.new replies.new }
-{
-    let mut numbers: [u8; 64] = [0; 64];
-    let mut sizes: [u8; 64] = [0; 64];
-    let room = lesser(records, 64);
-    let returned = batch_numbers(
-        s,
-        bytes,
-        starts,
-        lengths,
-        symbols,
-        image,
-        replies,
-        &mut numbers[..room],
-        &mut sizes[..room],
+    let mut state = s;
+    let verdict = numbered(
+        &mut state, bytes, starts, lengths, symbols, image, replies, numbers, sizes,
     );
-    let verdict = returned.verdict;
-    let number = verdict_number(verdict);
-    let filled = if number == 0 { starts.len() } else { 0 };
-    let answers = Answered {
-        number,
-        numbers,
-        lengths: sizes,
-        filled,
-    };
-    BatchAnswered { returned, answers }
+    BatchReturned { verdict, state }
 }
 
-fn answers_of(r: BatchAnswered) -> Answered
-    ensures { result ≡ r.answers }
-{
-    r.answers
-}
-
-fn returned_of(r: BatchAnswered) -> BatchReturned
-    ensures { result ≡ r.returned }
-{
-    r.returned
-}
-
-// The batch, with an answer record for each item in the lent list.
+// The batch on a State, with an answer record for each item in the lent list.
 pub fn batch(
     s: State,
     bytes: &[u8],
@@ -173,16 +187,12 @@ pub fn batch(
         × LeftAs (batch on_state s (lends bytes.now starts.now lengths.now symbols.now image.old replies.old) (length answers.old)) result.state image.new replies.new
         × (answers.new ≡ filled answers.old (batch on_state s (lends bytes.now starts.now lengths.now symbols.now image.old replies.old) (length answers.old)).left.answers) }
 {
-    let r = answered(
-        s,
-        bytes,
-        starts,
-        lengths,
-        symbols,
-        image,
-        replies,
-        answers.len(),
+    let mut state = s;
+    let records = answers.len();
+    let verdict = batch_verdict(starts.len(), lengths.len(), records, replies.len());
+    let given = answered(
+        &mut state, bytes, starts, lengths, symbols, image, replies, records,
     );
-    put_records(answers, answers_of(r));
-    returned_of(r)
+    put_records(answers, given);
+    BatchReturned { verdict, state }
 }

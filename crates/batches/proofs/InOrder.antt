@@ -1,5 +1,6 @@
 -- A batch is the single calls made in order, for every single call that leaves its reply buffer as long as it was.
 -- Assumes nothing.
+use Rattle.std.specs.Prelude.{Ok, Err}
 use mathlib.Core.Path.{◌≡◌, refl, sym, ap, ◌∙◌}
 use mathlib.Core.Logic.{◌↔◌}
 use mathlib.Core.Bool.{true, false}
@@ -13,7 +14,6 @@ use Rattle.lists.proofs.Tests.{either, contra}
 use Rattle.rules.specs.Commands.{CommandArgs}
 use Rattle.rules.specs.Results.{verdict_number}
 use Rattle.rules.specs.declared.Refusal.TheVariants.{BufferLength}
-use Rattle.rules.specs.declared.Verdict.TheVariants.{Accepted, Rejected}
 use Rattle.batches.specs.Batch.{BatchArgs, lends, Single, items_of, bytes_from, packet_of, unfit, Left, left_by, with_item, Batch, batch}
 use Rattle.batches.specs.InOrder.{Item, items_along, items, made, makes, last_state, last_image, records_of, replies_of, left_of, InOrder, Fits}
 use Rattle.batches.proofs.InPlain.{fits_out, fits_in}
@@ -152,9 +152,9 @@ module _ {S : Type 0} (call : S → CommandArgs → Single S) where
           (upto (items_of a) (omega arith)).is
           ∙ ap (λ (xs : List Item). before (drop (32 * items_of a) a.replies) (runs a.symbols s a.image xs)) (take_all (items_of a) (items a) (omega (arith, all_items)))
 
-      in_order_of : batch call s a records ≡ record { verdict = Accepted; left = left_of s a (made call a.symbols s a.image (items a)) }
+      in_order_of : batch call s a records ≡ record { verdict = (Ok tt); left = left_of s a (made call a.symbols s a.image (items a)) }
       unfolding batch
-      in_order_of = rw (fits_in a records fit) (ap (λ (l : Left S). record { verdict = Accepted; left = l }) all_of)
+      in_order_of = rw (fits_in a records fit) (ap (λ (l : Left S). record { verdict = (Ok tt); left = l }) all_of)
 
     -- ITEMS XS THEN YS
     module _ (s : S) (bytes xs lxs ys lys symbols image replies : List ℕ) (records : ℕ)
@@ -193,20 +193,20 @@ module _ {S : Type 0} (call : S → CommandArgs → Single S) where
           (record { few = omega arith; equal = ey; room = omega arith; bytes = simp length-drop (omega arith) }))
 
       both_left : batch call s (lends bytes (xs ++ ys) (lxs ++ lys) symbols image replies) records
-          ≡ record { verdict = Accepted; left = then (before [] front) (before (drop (32 * length ys) (drop at replies)) back) }
+          ≡ record { verdict = (Ok tt); left = then (before [] front) (before (drop (32 * length ys) (drop at replies)) back) }
       both_left =
           let n : length (xs ++ ys) ≡ length xs + length ys = length-append xs ys in
           let m : length (lxs ++ lys) ≡ length lxs + length lys = length-append lxs lys in
           let end : at + 32 * length ys ≡ 32 * length (xs ++ ys) = omega arith in
           in_order_of s (lends bytes (xs ++ ys) (lxs ++ lys) symbols image replies) records
           (record { few = omega arith; equal = omega arith; room = omega arith; bytes = omega arith })
-          ∙ ap (λ (l : Left S). record { verdict = Accepted; left = before (drop (32 * length (xs ++ ys)) replies) l }) both_runs
+          ∙ ap (λ (l : Left S). record { verdict = (Ok tt); left = before (drop (32 * length (xs ++ ys)) replies) l }) both_runs
           ∙ rw (append-nil, drop-drop, end, append_assoc)
 
       one_after_the_other : (first second : Left S)
           → first ≡ (batch call s (lends bytes xs lxs symbols image (take at replies)) (length xs)).left
           → second ≡ (batch call first.state (lends bytes ys lys symbols first.image (drop at replies)) (records - length xs)).left
-          → batch call s (lends bytes (xs ++ ys) (lxs ++ lys) symbols image replies) records ≡ record { verdict = Accepted; left = then first second }
+          → batch call s (lends bytes (xs ++ ys) (lxs ++ lys) symbols image replies) records ≡ record { verdict = (Ok tt); left = then first second }
       one_after_the_other first second p q =
           let f : first ≡ before [] front = p ∙ first_left in
           let g : second ≡ before (drop (32 * length ys) (drop at replies)) back =
@@ -216,7 +216,7 @@ module _ {S : Type 0} (call : S → CommandArgs → Single S) where
           rw (f, g) both_left
 
     nothing_done : (s : S) (a : BatchArgs) (records : ℕ) → unfit a records ≡ true
-        → batch call s a records ≡ record { verdict = Rejected BufferLength; left = record { state = s; image = a.image; replies = a.replies; answers = [] } }
+        → batch call s a records ≡ record { verdict = Err BufferLength; left = record { state = s; image = a.image; replies = a.replies; answers = [] } }
     unfolding batch left_by
     nothing_done s a records h = rw h
 
@@ -258,7 +258,7 @@ module _ {S : Type 0} (call : S → CommandArgs → Single S) where
               ap
               (λ (r : List ℕ).
               record {
-                verdict = Accepted;
+                verdict = (Ok tt);
                 left =
                     record {
                       state = c.state;
@@ -295,7 +295,7 @@ module _ {S : Type 0} (call : S → CommandArgs → Single S) (s : S) (keeps : (
   pub all_refused : (a : BatchArgs) (records : ℕ) → unfit a records ≡ false
       → batch call s a records
       ≡ record {
-        verdict = Accepted;
+        verdict = (Ok tt);
         left =
             record {
               state = s;
@@ -309,7 +309,7 @@ module _ {S : Type 0} (call : S → CommandArgs → Single S) (s : S) (keeps : (
       ∙ ap
       (λ (l : Left S).
       record {
-        verdict = Accepted;
+        verdict = (Ok tt);
         left = record { state = l.state; image = l.image; replies = l.replies ++ drop (32 * items_of a) a.replies; answers = l.answers };
       })
       (bad_runs a.symbols a.image a.bytes a.starts a.lengths a.replies (fits_out a records h).equal)

@@ -1,5 +1,6 @@
 -- What a command keeps of a state: its regions, their count and its pools. Its number and the length of its reply fit a byte.
 -- Assumes nothing.
+use Rattle.std.specs.Prelude.{Result, Ok, Err}
 use mathlib.Core.Path.{◌≡◌, refl}
 use Prim.Native.Nat.{ℕ, ◌<◌}
 use lib.Dec.{lit<}
@@ -12,8 +13,6 @@ use Rattle.rules.specs.declared.Refusal.TheVariants.{BadState, ImageLength, Buff
 use Rattle.rules.specs.declared.State.{State}
 use Rattle.rules.specs.declared.Task.{Task}
 use Rattle.rules.specs.declared.Task.TheVariants.{Nothing, DumpRange, CancelDump, LoadRange, CountPool, TellValue}
-use Rattle.rules.specs.declared.Verdict.{Verdict}
-use Rattle.rules.specs.declared.Verdict.TheVariants.{Accepted, Rejected}
 
 pub record Kept (s : State) (o : Outcome) : Type 0 where
   pub regions : o.state.regions ≡ s.regions
@@ -22,7 +21,7 @@ pub record Kept (s : State) (o : Outcome) : Type 0 where
   pub number : answer_number o.answer < 256
   pub length : answer_length o.answer < 256
 
-refusal_small : (r : Refusal) → number r < 256
+pub refusal_small : (r : Refusal) → number r < 256
 refusal_small BadState = lit< tt
 refusal_small ImageLength = lit< tt
 refusal_small BufferLength = lit< tt
@@ -63,9 +62,9 @@ module _ (s : State) (c : CommandArgs) where
   carried_kept (CountPool i) = replied_kept i (blocks_of (pool_words s i c.image))
   carried_kept (TellValue v) = record { regions = refl; count = refl; pools = refl; number = lit< tt; length = lit< tt }
 
-  concluded_kept : (v : Verdict) → Kept s (conclude s c v)
-  concluded_kept (Rejected r) = refused_kept r
-  concluded_kept Accepted = carried_kept (task c)
+  concluded_kept : (v : Result (Unit {0}) Refusal) → Kept s (conclude s c v)
+  concluded_kept (Err r) = refused_kept r
+  concluded_kept (Ok tt) = carried_kept (task c)
 
   pub command_kept : Kept s (command_call s c)
   unfolding command_call

@@ -9,4 +9,5 @@ pub mod Records
 pub mod Items
 pub mod Turns
 pub mod Whole
+pub mod NoState
 pub mod AnItem

@@ -1,5 +1,6 @@
 -- A1's promises for the command call on a State, from demand 1.
 -- Assumes nothing.
+use Rattle.std.specs.Prelude.{Err}
 use mathlib.Core.Path.{◌≡◌, refl, ap, subst, ◌∙◌}
 use mathlib.Core.Bool.{false}
 use mathlib.Core.List.{List, [], ◌∷◌}
@@ -10,7 +11,6 @@ use lib.Seq.{get_or-append-add, get_or-drop}
 use Rattle.rules.specs.Commands.{CommandArgs, command_rows, command_call}
 use Rattle.rules.specs.Results.{lowest, lent_rows}
 use Rattle.rules.specs.States.{good_state}
-use Rattle.rules.specs.declared.Answer.TheVariants.{Refused}
 use Rattle.rules.specs.declared.Refusal.TheVariants.{BadState}
 use Rattle.rules.specs.declared.State.{State}
 use Rattle.rules.proofs.Refusals.{demand_1}
@@ -29,7 +29,7 @@ pub command_in_order : InOrder on_state
 command_in_order = in_order_lem on_state reply_kept
 
 module _ (s : State) (bad : good_state s ≡ false) where
-  bad_call : (c : CommandArgs) → command_call s c ≡ record { answer = Refused BadState; state = s; image = c.image; buffer = c.reply }
+  bad_call : (c : CommandArgs) → command_call s c ≡ record { answer = Err BadState; state = s; image = c.image; buffer = c.reply }
   unfolding command_call command_rows lent_rows lowest
   bad_call c = rw bad
 

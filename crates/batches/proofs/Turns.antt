@@ -3,13 +3,13 @@
 use mathlib.Core.Path.{◌≡◌, refl, ◌∙◌}
 use mathlib.Core.Bool.{false}
 use mathlib.Core.List.{List}
-use Prim.Native.Nat.{ℕ, ◌+◌, ◌*◌, ◌≤◌, ◌<◌, min}
+use Prim.Native.Nat.{ℕ, zero, suc, ◌+◌, ◌*◌, ◌≤◌, ◌<◌, min}
 use native.Mathlib.Numerals.{add-one}
 use native.Mathlib.Omega.{arith}
 use lib.ListN.{length, set, take, drop}
 use Rattle.lists.specs.Splice.{splice}
 use Rattle.rules.specs.Commands.{CommandArgs}
-use Rattle.batches.specs.Batch.{BatchArgs, Single, items_of, packet_of, unfit_by, unfit, Left, left_by, filled, numbers_of, lengths_of}
+use Rattle.batches.specs.Batch.{BatchArgs, Single, items_of, packet_of, unfit_by, unfit, item_args, Left, left_by, batch, filled, numbers_of, lengths_of}
 use Rattle.batches.specs.InOrder.{Fits}
 use Rattle.batches.proofs.InPlain.{fits_out}
 use Rattle.batches.proofs.Records.{answers_length, numbers_more, lengths_more}
@@ -92,3 +92,21 @@ module _ {S : Type 0} (call : S → CommandArgs → Single S) (a : BatchArgs) (n
   all {i} {state} {image} {replies} {ns} {ls} u e =
       let v : Upto (items_of a) state image replies ns ls = rw e at u in
       (v.state_is, v.image_is, v.replies_is, v.numbers_is, v.sizes_is)
+
+-- TWO SINGLE CALLS that agree on what either leaves, from a state that `Kind` holds of: they leave the same
+
+module _ {S : Type 0} (f g : S → CommandArgs → Single S) (Kind : S → Type 0) (agree : (s : S) (c : CommandArgs) → Kind s → (f s c ≡ g s c) × Kind (f s c).state) (a : BatchArgs) (s : S) (kind : Kind s) where
+  both_left : (k : ℕ) → (left_by f a s k ≡ left_by g a s k) × Kind (left_by f a s k).state
+  unfolding left_by
+  both_left zero = (refl, kind)
+  both_left (suc k) =
+      let h = both_left k in
+      let e = agree (left_by f a s k).state (item_args f a (left_by f a s k) k) h.1 in
+      (rw (e.0, h.0), e.1)
+
+  pub same_left : (k : ℕ) → left_by f a s k ≡ left_by g a s k
+  same_left k = (both_left k).0
+
+  pub same_batch : (records : ℕ) → batch f s a records ≡ batch g s a records
+  unfolding batch
+  same_batch records = rw (same_left 0, same_left (items_of a))

@@ -1,5 +1,6 @@
 -- A byte of the reply buffer that no item writes stays.
 -- Assumes nothing.
+use Rattle.std.specs.Prelude.{Result, Ok, Err}
 use mathlib.Core.Path.{◌≡◌, refl, sym, ap, subst, ◌∙◌}
 use mathlib.Core.List.{List, [], ◌∷◌, ◌++◌}
 use Prim.Native.Nat.{ℕ, zero, suc, ◌+◌, ◌*◌, ◌-◌, ◌≤◌, ◌<◌}
@@ -16,12 +17,11 @@ use Rattle.rules.specs.Values.{value_bytes}
 use Rattle.rules.specs.declared.State.{State}
 use Rattle.rules.specs.declared.Task.{Task}
 use Rattle.rules.specs.declared.Task.TheVariants.{Nothing, DumpRange, CancelDump, LoadRange, CountPool, TellValue}
-use Rattle.rules.specs.declared.Verdict.{Verdict}
-use Rattle.rules.specs.declared.Verdict.TheVariants.{Accepted, Rejected}
 use Rattle.rules.proofs.Refusals.{demand_1}
 use Rattle.batches.specs.Batch.{BatchArgs, on_state, items_of, unfit, bytes_from, Batch, batch}
 use Rattle.batches.specs.InOrder.{InOrder, Fits, no_answer, items_along, items, made, records_of, replies_of}
 use Rattle.batches.proofs.InPlain.{fits_out}
+use Rattle.rules.specs.declared.Refusal.{Refusal}
 
 -- THE SINGLE CALL: bytes past its reply stay
 
@@ -43,9 +43,9 @@ module _ (s : State) (c : CommandArgs) where
   carried_keeps (CountPool i) = replied_keeps i (blocks_of (pool_words s i c.image))
   carried_keeps (TellValue v) = splice_rest c.reply (value_bytes s.values s.unit (command_transaction c.packet) v)
 
-  concluded_keeps : (v : Verdict) → Untouched c (conclude s c v)
-  concluded_keeps (Rejected r) = refl
-  concluded_keeps Accepted = carried_keeps (task c)
+  concluded_keeps : (v : Result (Unit {0}) Refusal) → Untouched c (conclude s c v)
+  concluded_keeps (Err r) = refl
+  concluded_keeps (Ok tt) = carried_keeps (task c)
 
   call_keeps : Untouched c (command_call s c)
   unfolding command_call

@@ -1,5 +1,6 @@
 -- The whole batch, from its verdict, and its answers by value: for every single call.
 -- Assumes nothing.
+use Rattle.std.specs.Prelude.{Result, Ok, Err}
 use mathlib.Core.Path.{◌≡◌, refl, sym, ap, ◌∙◌}
 use mathlib.Core.Bool.{Bool, true, false, cond}
 use mathlib.Core.List.{List, ◌++◌, append_assoc}
@@ -8,40 +9,44 @@ use Prim.Native.Nat.{ℕ, min}
 use native.Mathlib.Omega.{arith}
 use lib.ListN.{length, take, drop}
 use lib.Seq.{length-take-le}
+use Rattle.lists.proofs.Tests.{either}
 use Rattle.rules.specs.Commands.{CommandArgs}
 use Rattle.rules.specs.Results.{verdict_number}
 use Rattle.rules.specs.declared.Refusal.{Refusal}
 use Rattle.rules.specs.declared.Refusal.TheVariants.{BufferLength}
-use Rattle.rules.specs.declared.Verdict.{Verdict}
-use Rattle.rules.specs.declared.Verdict.TheVariants.{Accepted, Rejected}
 use Rattle.answers.specs.declared.Answered.{Answered}
 use Rattle.batches.specs.Batch.{BatchArgs, Single, items_of, unfit_by, unfit, Batch, left_by, batch, LeftAs, filled, numbers_of, lengths_of, Answers}
 use Rattle.batches.proofs.Records.{same_batch, count, gives}
 
-abbrev verdict_of : Bool → Verdict
-verdict_of b = cond b (Rejected BufferLength) Accepted
+abbrev verdict_of : Bool → Result (Unit {0}) Refusal
+verdict_of b = cond b (Err BufferLength) (Ok tt)
 
-accepts : (b : Bool) (v : Verdict) → v ≡ verdict_of b → v ≡ Accepted → b ≡ false
+accepts : (b : Bool) (v : Result (Unit {0}) Refusal) → v ≡ verdict_of b → v ≡ (Ok tt) → b ≡ false
 accepts true v e h = let z : ◌≡◌ {A = ℕ} 0 1 = cc in absurd (omega arith)
 accepts false v e h = refl
 
-rejects : (b : Bool) (v : Verdict) (r : Refusal) → v ≡ verdict_of b → v ≡ Rejected r → b ≡ true
+rejects : (b : Bool) (v : Result (Unit {0}) Refusal) (r : Refusal) → v ≡ verdict_of b → v ≡ Err r → b ≡ true
 rejects true v r e h = refl
 rejects false v r e h = let z : ◌≡◌ {A = ℕ} 0 1 = cc in absurd (omega arith)
+
+pub verdict_is : {S : Type 0} (call : S → CommandArgs → Single S) (s : S) (a : BatchArgs) (records : ℕ)
+    → (batch call s a records).verdict ≡ verdict_of (unfit_by (items_of a) (length a.lengths) records (length a.replies))
+unfolding batch unfit
+verdict_is call s a records = either (unfit_by (items_of a) (length a.lengths) records (length a.replies)) (λ e. rw e) (λ e. rw e)
 
 -- what the function that fills the two lists says
 module _ {S : Type 0} (call : S → CommandArgs → Single S) (s : S) (a : BatchArgs) (numbers sizes : List ℕ) where
   abbrev both : Batch S
   both = batch call s a (min (length numbers) (length sizes))
 
-  abbrev Said : Verdict → S → (image replies ns ls : List ℕ) → Type 0
+  abbrev Said : Result (Unit {0}) Refusal → S → (image replies ns ls : List ℕ) → Type 0
   Said v state image replies ns ls =
       (v ≡ both.verdict)
       × LeftAs both state image replies
       × (ns ≡ filled numbers (numbers_of both.left.answers))
       × (ls ≡ filled sizes (lengths_of both.left.answers))
 
-module _ {S : Type 0} (call : S → CommandArgs → Single S) (s : S) (a : BatchArgs) (numbers sizes : List ℕ) {v : Verdict} {records : ℕ} (records_is : records ≡ min (length numbers) (length sizes))
+module _ {S : Type 0} (call : S → CommandArgs → Single S) (s : S) (a : BatchArgs) (numbers sizes : List ℕ) {v : (Result (Unit {0}) Refusal)} {records : ℕ} (records_is : records ≡ min (length numbers) (length sizes))
     (v-is : v ≡ verdict_of (unfit_by (items_of a) (length a.lengths) records (length a.replies))) where
   abbrev test : Bool
   test = unfit_by (items_of a) (length a.lengths) (min (length numbers) (length sizes)) (length a.replies)
@@ -49,14 +54,14 @@ module _ {S : Type 0} (call : S → CommandArgs → Single S) (s : S) (a : Batch
   v_by : v ≡ verdict_of test
   v_by = rw records_is at v-is
 
-  pub fits : v ≡ Accepted → test ≡ false
+  pub fits : v ≡ (Ok tt) → test ≡ false
   fits h = accepts test v v_by h
 
-  pub refused : {r : Refusal} → v ≡ Rejected r → Said call s a numbers sizes v s a.image a.replies numbers sizes
+  pub refused : {r : Refusal} → v ≡ Err r → Said call s a numbers sizes v s a.image a.replies numbers sizes
   unfolding batch unfit left_by
   refused {r} h = let t : test ≡ true = rejects test v r v_by h in rw (t, v_by, t) (refl, (refl, refl, refl), refl, refl)
 
-  pub accepted : v ≡ Accepted → {state : S} {image replies ns ls : List ℕ}
+  pub accepted : v ≡ (Ok tt) → {state : S} {image replies ns ls : List ℕ}
       → (state ≡ (left_by call a s (items_of a)).state)
       × (image ≡ (left_by call a s (items_of a)).image)
       × (replies ≡ (left_by call a s (items_of a)).replies)
@@ -79,7 +84,7 @@ module _ (records : ℕ) {room : ℕ} (room-is : room ≡ min records 64) (z : L
   whole_list : (each l : List ℕ) → l ≡ filled (take room z) each → l ++ drop room z ≡ each ++ rest each
   whole_list each l e = ap (λ (m : List ℕ). m ++ drop room z) e ∙ append_assoc each (drop (length each) (take room z)) (drop room z)
 
-  module _ {S : Type 0} (call : S → CommandArgs → Single S) (s : S) (a : BatchArgs) {v : Verdict} {state : S} {image replies ns ls : List ℕ}
+  module _ {S : Type 0} (call : S → CommandArgs → Single S) (s : S) (a : BatchArgs) {v : (Result (Unit {0}) Refusal)} {state : S} {image replies ns ls : List ℕ}
       (said : Said call s a (take room z) (take room z) v state image replies ns ls) where
     abbrev o : Batch S
     o = batch call s a records

@@ -1,10 +1,9 @@
 -- AN ITEM IS ITS BYTES: a batch of one packet, wherever it stands in the buffer and however long it is, is the command call with that packet
 -- (paper 02, A1). No start is added to a length here.
-use Rattle.std.specs.Prelude.{◌≡◌, List, [], ◌∷◌, ◌++◌, ℕ, ◌≤◌, length, take, drop}
+use Rattle.std.specs.Prelude.{◌≡◌, List, [], ◌∷◌, ◌++◌, ℕ, ◌≤◌, length, take, drop, Ok}
 use Rattle.rules.specs.Commands.{CommandArgs, command_call}
 use Rattle.rules.specs.Results.{answer_number, answer_length}
 use Rattle.rules.specs.declared.State.{State}
-use Rattle.rules.specs.declared.Verdict.TheVariants.{Accepted}
 use Rattle.batches.specs.Batch.{lends, on_state, batch}
 
 -- what the command call is lent: the packet, and the first 32 bytes of the reply buffer
@@ -16,7 +15,7 @@ AnItem =
     (s : State) (before p after symbols image replies : List ℕ) (records : ℕ) → 1 ≤ records → 32 ≤ length replies
     → batch on_state s (lends (before ++ p ++ after) (length before ∷ []) (length p ∷ []) symbols image replies) records
     ≡ record {
-      verdict = Accepted;
+      verdict = (Ok tt);
       left =
           record {
             state = (command_call s (alone p symbols image replies)).state;

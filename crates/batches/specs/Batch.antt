@@ -1,15 +1,14 @@
 -- Paper 02, A1: up to 64 commands in one call, which are lent one symbol table (A2). Said once for every single call: the command call on a State, and the one from C on a block.
-use Rattle.std.specs.Prelude.{◌≡◌, Bool, not, ◌||◌, cond, List, [], ◌∷◌, ◌++◌, ℕ, zero, suc, ◌+◌, ◌*◌, min, leb, ltb, eqb, length, get_or, take, drop}
+use Rattle.std.specs.Prelude.{◌≡◌, Bool, not, ◌||◌, cond, List, [], ◌∷◌, ◌++◌, ℕ, zero, suc, ◌+◌, ◌*◌, min, leb, ltb, eqb, length, get_or, take, drop, Result, Ok, Err}
 use Rattle.lists.specs.Splice.{splice}
 use Rattle.rules.specs.Commands.{CommandArgs, command_call}
 use Rattle.rules.specs.Results.{answer_number, answer_length}
 use Rattle.rules.specs.declared.Refusal.TheVariants.{BufferLength}
 use Rattle.rules.specs.declared.State.{State}
-use Rattle.rules.specs.declared.Verdict.{Verdict}
-use Rattle.rules.specs.declared.Verdict.TheVariants.{Accepted, Rejected}
 use Rattle.answers.specs.Records.{put_records}
 use Rattle.answers.specs.declared.Answered.{Answered}
 use Rattle.answers.specs.declared.ItemAnswer.{ItemAnswer}
+use Rattle.rules.specs.declared.Refusal.{Refusal}
 
 -- what a batch is lent beside the state and the list of answer records
 pub record BatchArgs : Type 0 where
@@ -97,14 +96,14 @@ module _ {S : Type 0} (call : S → CommandArgs → Single S) (a : BatchArgs) wh
 -- THE BATCH, on a state, with so many answer records lent: 3, and nothing changes; else 0, whatever the items got
 
 pub record Batch (S : Type 0) : Type 0 where
-  pub verdict : Verdict
+  pub verdict : Result (Unit {0}) Refusal
   pub left : Left S
 
 unfoldable pub batch : {S : Type 0} → (S → CommandArgs → Single S) → S → BatchArgs → ℕ → Batch S
 batch call s a records =
     cond (unfit a records)
-    (record { verdict = Rejected BufferLength; left = left_by call a s 0 })
-    (record { verdict = Accepted; left = left_by call a s (items_of a) })
+    (record { verdict = Err BufferLength; left = left_by call a s 0 })
+    (record { verdict = (Ok tt); left = left_by call a s (items_of a) })
 
 -- the state, the image and the reply buffer are those that the batch leaves
 abbrev pub LeftAs : {S : Type 0} → Batch S → S → List ℕ → List ℕ → Type 0

@@ -1,11 +1,10 @@
 -- A1's promises: a batch is the single calls made in order, refused ones included.
-use Rattle.std.specs.Prelude.{◌≡◌, ◌↔◌, true, false, List, [], ◌∷◌, ◌++◌, ℕ, ◌+◌, ◌*◌, ◌-◌, ◌≤◌, ◌<◌, length, get_or, take, drop, replicate}
+use Rattle.std.specs.Prelude.{◌≡◌, ◌↔◌, true, false, List, [], ◌∷◌, ◌++◌, ℕ, ◌+◌, ◌*◌, ◌-◌, ◌≤◌, ◌<◌, length, get_or, take, drop, replicate, Ok, Err}
 use Rattle.rules.specs.Commands.{CommandArgs, command_call}
 use Rattle.rules.specs.Results.{verdict_number, answer_number, answer_length}
 use Rattle.rules.specs.States.{good_state}
 use Rattle.rules.specs.declared.Refusal.TheVariants.{BufferLength}
 use Rattle.rules.specs.declared.State.{State}
-use Rattle.rules.specs.declared.Verdict.TheVariants.{Accepted, Rejected}
 use Rattle.answers.specs.declared.ItemAnswer.{ItemAnswer}
 use Rattle.batches.specs.Batch.{BatchArgs, Single, on_state, items_of, bytes_from, unfit, Left, Batch, batch, LeftAs, lends, filled, numbers_of, lengths_of}
 
@@ -90,21 +89,21 @@ pub record InOrder {S : Type 0} (call : S → CommandArgs → Single S) : Type 0
   pub not_taken : (s : S) (a : BatchArgs) (records : ℕ) → (verdict_number (batch call s a records).verdict ≡ 3) ↔ (Fits a records → ⊥)
   -- 0: the single calls in order
   pub equals : (s : S) (a : BatchArgs) (records : ℕ) → unfit a records ≡ false
-      → batch call s a records ≡ record { verdict = Accepted; left = left_of s a (made call a.symbols s a.image (items a)) }
+      → batch call s a records ≡ record { verdict = (Ok tt); left = left_of s a (made call a.symbols s a.image (items a)) }
   -- 3: nothing changes
   pub refused : (s : S) (a : BatchArgs) (records : ℕ) → unfit a records ≡ true
       → batch call s a records
-      ≡ record { verdict = Rejected BufferLength; left = record { state = s; image = a.image; replies = a.replies; answers = [] } }
+      ≡ record { verdict = Err BufferLength; left = record { state = s; image = a.image; replies = a.replies; answers = [] } }
   -- no item: nothing changes
   pub none : (s : S) (bytes symbols image replies : List ℕ) (records : ℕ)
       → batch call s (lends bytes [] [] symbols image replies) records
-      ≡ record { verdict = Accepted; left = record { state = s; image = image; replies = replies; answers = [] } }
+      ≡ record { verdict = (Ok tt); left = record { state = s; image = image; replies = replies; answers = [] } }
   -- one item: the single call, and nothing of the definition of the batch
   pub one : (s : S) (bytes : List ℕ) (start n : ℕ) (symbols image replies : List ℕ) (records : ℕ) → 1 ≤ records → 32 ≤ length replies
       → let c = call s (record { packet = bytes_from bytes start n; symbols = symbols; image = image; reply = take 32 replies }) in
       batch call s (lends bytes (start ∷ []) (n ∷ []) symbols image replies) records
       ≡ record {
-        verdict = Accepted;
+        verdict = (Ok tt);
         left =
             record {
               state = c.state;
@@ -122,7 +121,7 @@ pub record InOrder {S : Type 0} (call : S → CommandArgs → Single S) : Type 0
       → second ≡ (batch call first.state (lends bytes ys lys symbols first.image (drop (32 * length xs) replies)) (records - length xs)).left
       → batch call s (lends bytes (xs ++ ys) (lxs ++ lys) symbols image replies) records
       ≡ record {
-        verdict = Accepted;
+        verdict = (Ok tt);
         left =
             record {
               state = second.state;
@@ -166,7 +165,7 @@ pub record Promises : Type 0 where
       → let o = command_call s (record { packet = bytes_from bytes start n; symbols = symbols; image = image; reply = take 32 replies }) in
       batch on_state s (lends bytes (start ∷ []) (n ∷ []) symbols image replies) records
       ≡ record {
-        verdict = Accepted;
+        verdict = (Ok tt);
         left =
             record {
               state = o.state;
@@ -188,7 +187,7 @@ pub record Promises : Type 0 where
   pub not_good : (s : State) (a : BatchArgs) (records : ℕ) → good_state s ≡ false → unfit a records ≡ false
       → batch on_state s a records
       ≡ record {
-        verdict = Accepted;
+        verdict = (Ok tt);
         left =
             record {
               state = s;

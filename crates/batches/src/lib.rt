@@ -1,41 +1,39 @@
 // Many commands in one call (paper 02, A1): its definition, the theorems about it, and what both stores do alike.
 #![tactic(auto)]
 
-ghost use Rattle.std.specs.Prelude.{◌≡◌, cond, min};
+ghost use Rattle.std.specs.Prelude.{◌≡◌, cond};
 ghost use Rattle.rules.specs.declared.Refusal.TheVariants.{BufferLength};
-ghost use Rattle.rules.specs.declared.Verdict.TheVariants.{Accepted, Rejected};
 ghost use Rattle.batches.specs.AnItem.{AnItem};
 ghost use Rattle.batches.specs.Batch.{bytes_from, unfit_by};
 ghost use Rattle.batches.specs.Examples.{BatchExamples};
 ghost use Rattle.batches.specs.InOrder.{Promises};
 ghost use Rattle.batches.specs.Lists.{Demand3WithBatches, ItemsAreCalls, StaysGood};
 
-use rules::{Refusal, State, Verdict};
+use rules::{Refusal, State};
 
-// What a batch returns beside the image, the buffer and the answers that it leaves.
+// What a batch returns beside the image, the buffer and the answers that it leaves. Kept: a refusal too leaves a state.
 #[derive(Clone, Copy)]
 pub struct BatchReturned {
-    pub verdict: Verdict,
+    pub verdict: Result<(), Refusal>,
     pub state: State,
 }
 
-pub fn lesser(a: usize, b: usize) -> usize
-    ensures { result ≡ min a b }
-{
-    if a <= b { a } else { b }
-}
-
 // 3, or no refusal, for so many starts and lengths, answer records and bytes of the reply buffer.
-pub fn batch_verdict(starts: usize, lengths: usize, records: usize, replies: usize) -> Verdict
-    ensures { result ≡ cond (unfit_by starts lengths records replies) (Rejected BufferLength) Accepted }
+pub fn batch_verdict(
+    starts: usize,
+    lengths: usize,
+    records: usize,
+    replies: usize,
+) -> Result<(), Refusal>
+    ensures { result ≡ cond (unfit_by starts lengths records replies) (Err BufferLength) (Ok tt) }
 {
     if 64 < starts {
-        return Verdict::Rejected(Refusal::BufferLength);
+        return Err(Refusal::BufferLength);
     }
     if (lengths != starts) | (records < starts) | (replies < 32 * starts) {
-        return Verdict::Rejected(Refusal::BufferLength);
+        return Err(Refusal::BufferLength);
     }
-    Verdict::Accepted
+    Ok(())
 }
 
 // The packet of an item: n bytes from `start` on. Where they are not all there, it is empty.

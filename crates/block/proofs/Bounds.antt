@@ -4,12 +4,13 @@ use mathlib.Core.Path.{◌≡◌}
 use mathlib.Core.Logic.{◌≢◌}
 use mathlib.Core.Bool.{Bool, true, false, ◌&&◌}
 use mathlib.Core.List.{List}
-use Prim.Native.Nat.{ℕ, ◌≤◌}
+use Prim.Native.Nat.{ℕ, zero, suc, ◌+◌, ◌*◌, ◌≤◌, ◌<◌}
+use native.Mathlib.Omega.{arith}
 use lib.Dec.{leb, eqb}
 use lib.ListN.{length}
 use borrow.Author.Tests.{leb-true, eqb-true, ne_eqb}
 use Rattle.lists.proofs.Tests.{and_left, and_right}
-use Rattle.block.specs.Blocks.{word, regions_bounds, places_bounds, counts_bounds, is_block}
+use Rattle.block.specs.Blocks.{word, regions_bounds, place_bounds, places_bounds, counts_bounds, is_block}
 
 -- four tests that all pass
 pub record Four (a b c d : Bool) : Type 0 where
@@ -23,6 +24,16 @@ four_out a b c d h =
     let abc = and_left (a && b && c) d h in
     let ab = and_left (a && b) c abc in
     record { first = and_left a b ab; second = and_right a b ab; third = and_right (a && b) c abc; fourth = and_right (a && b && c) d h }
+
+pub places_out : (b : List ℕ) → places_bounds b ≡ true → (i : ℕ) → i < 4 → place_bounds b (54 + 5 * i) ≡ true
+places_out b h = at_place (four_out (place_bounds b 54) (place_bounds b 59) (place_bounds b 64) (place_bounds b 69) h)
+  where
+    at_place : Four (place_bounds b 54) (place_bounds b 59) (place_bounds b 64) (place_bounds b 69) → (i : ℕ) → i < 4 → place_bounds b (54 + 5 * i) ≡ true
+    at_place f zero l = f.first
+    at_place f (suc zero) l = f.second
+    at_place f (suc (suc zero)) l = f.third
+    at_place f (suc (suc (suc zero))) l = f.fourth
+    at_place f (suc (suc (suc (suc i)))) l = absurd (omega arith)
 
 pub record CountsBounds (b : List ℕ) : Type 0 where
   pub last : word b 74 ≤ 255

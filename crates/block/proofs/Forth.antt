@@ -19,7 +19,7 @@ use Rattle.block.specs.Blocks.{rights_word, region_words, context_words, regions
 use Rattle.block.specs.Runs.{runs}
 use Rattle.block.proofs.Runs.{runs_take, list_at, front_more, front_runs}
 use Rattle.block.proofs.Writes.{write_left, write_to_end, front_whole}
-use Rattle.block.proofs.Bounds.{Four, four_out, BlockBounds, block_out}
+use Rattle.block.proofs.Bounds.{four_out, places_out, BlockBounds, block_out}
 use Rattle.block.proofs.Lengths.{context_words_length, regions_words_length}
 
 rights_forth : (w : ℕ) → w ≤ 3 → rights_word (eqb (w % 2) 1) (leb 2 w) ≡ w
@@ -93,17 +93,6 @@ module _ (b : List ℕ) (g : BlockBounds b) where
   unfolding regions_bounds
   rights_low i l = leb-true (word b (1 + 3 * i + 2)) 3 (all_at (λ j. leb (word b (1 + 3 * j + 2)) 3) (min (word b 0) 16) g.regions l)
 
-  pub place_bounds_lem : (i : ℕ) → i < 4 → place_bounds b (54 + 5 * i) ≡ true
-  place_bounds_lem i l =
-      let f = four_out (place_bounds b 54) (place_bounds b 59) (place_bounds b 64) (place_bounds b 69) g.places in at_place f i l
-    where
-      at_place : Four (place_bounds b 54) (place_bounds b 59) (place_bounds b 64) (place_bounds b 69) → (i : ℕ) → i < 4 → place_bounds b (54 + 5 * i) ≡ true
-      at_place f zero l = f.first
-      at_place f (suc zero) l = f.second
-      at_place f (suc (suc zero)) l = f.third
-      at_place f (suc (suc (suc zero))) l = f.fourth
-      at_place f (suc (suc (suc (suc i)))) l = absurd (omega arith)
-
   head_front : word b 0 < 4294967296 → (min 4294967295 (word b 0) ∷ []) ≡ take 1 b
   head_front h =
       let n = g.words in
@@ -138,7 +127,7 @@ module _ (b : List ℕ) (g : BlockBounds b) where
       let n = g.words in
       front_runs b (λ i. context_words (context_at (places_in b 54) i)) 5 54 (λ i. context_words_length (context_at (places_in b 54) i)) 4 (omega arith)
       (λ i k l m. ap (λ (p : Place). word (context_words p.context) k) (list_at idle_place (λ j. place_in b (54 + 5 * j)) 4 i l)
-      ∙ context_forth b (54 + 5 * i) (place_bounds_lem i l) k m)
+      ∙ context_forth b (54 + 5 * i) (places_out b g.places i l) k m)
 
   tail_front : take 74 b ++ (word b 74 ∷ word b 75 ∷ word b 76 ∷ word b 77 ∷ word b 78 ∷ word b 79 ∷ []) ≡ take 80 b
   tail_front = let n = g.words in front_more b (word b 74 ∷ word b 75 ∷ word b 76 ∷ word b 77 ∷ word b 78 ∷ word b 79 ∷ []) 74 (omega arith) each
@@ -213,5 +202,9 @@ module _ (b : List ℕ) (g : BlockBounds b) where
 pub block_of_lem : (b : List ℕ) → word b 0 < 4294967296 → is_block b ≡ true → ((i : ℕ) → i < 16 → word b (1 + 3 * i + 2) ≤ 3) → block_of (state_of b) ≡ b
 block_of_lem b h e r = all_in b (block_out b e) h r
 
+-- only the number of regions has to fit a word
+pub counted_forth : (b : List ℕ) → word b 0 < 4294967296 → is_block b ≡ true → block_over b (state_of b) ≡ b
+counted_forth b h e = over_in b (block_out b e) h
+
 pub block_forth : (b : List ℕ) → ((i : ℕ) → word b i < 4294967296) → is_block b ≡ true → block_over b (state_of b) ≡ b
-block_forth b h e = over_in b (block_out b e) (h 0)
+block_forth b h e = counted_forth b (h 0) e

@@ -17,7 +17,7 @@ use Rattle.block.specs.RoundTrip.{Fits}
 use Rattle.block.specs.Runs.{runs}
 use Rattle.block.proofs.Back.{Says, said_back, said_block}
 use Rattle.block.proofs.Bounds.{block_out}
-use Rattle.block.proofs.Forth.{block_forth}
+use Rattle.block.proofs.Forth.{counted_forth}
 use Rattle.block.proofs.Lengths.{regions_words_length, block_length}
 use Rattle.block.proofs.Parts.{count_front, regions_front, rights_front}
 use Rattle.block.proofs.Runs.{runs_take, in_rest}
@@ -78,7 +78,7 @@ module _ (s t : State) (r : t.regions ≡ s.regions) (c : t.count ≡ s.count) w
 
 -- A BLOCK THAT IS A STATE, and another state with its regions
 
-module _ (b : List ℕ) (fits : (i : ℕ) → word b i < 4294967296) (block : is_block b ≡ true) (s : State) (r : s.regions ≡ (state_of b).regions)
+module _ (b : List ℕ) (low : word b 0 < 4294967296) (block : is_block b ≡ true) (s : State) (r : s.regions ≡ (state_of b).regions)
     (c : s.count ≡ (state_of b).count) where
   unused_length : unused_from b + length (drop (unused_from b) (take 49 b)) ≡ 49
   unused_length = let n = (block_out b block).words in simp (length-drop, length-take) (omega arith)
@@ -94,7 +94,7 @@ module _ (b : List ℕ) (fits : (i : ℕ) → word b i < 4294967296) (block : is
       front_over s
       ∙ ap (λ (u : List ℕ). take (unused_from b) u ++ drop (unused_from b) (take 49 b)) (sym (firsts_same (state_of b) s r c))
       ∙ sym (front_over (state_of b))
-      ∙ ap (take 49) (block_forth b fits block)
+      ∙ ap (take 49) (counted_forth b low block)
 
   over_says : Says (block_over b s) s
   unfolding block_over state_of

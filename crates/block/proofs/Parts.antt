@@ -8,15 +8,10 @@ use lib.Dec.{leb}
 use lib.ListN.{take, drop}
 use lib.Seq.{get_or-take, get_or-drop}
 use Rattle.lists.proofs.Below.{all_same}
-use Rattle.rules.specs.States.{context_at, idle_place}
 use Rattle.rules.specs.declared.Place.{Place}
 use Rattle.rules.specs.declared.Region.{Region}
-use Rattle.block.specs.Blocks.{word, range_in, region_in, context_in, place_in, regions_in, places_in, regions_bounds, place_bounds}
-use Rattle.block.proofs.Runs.{runs_same, list_at}
-
--- what place i does
-pub context_in_lem : (b : List ℕ) (at i : ℕ) → i < 4 → context_at (places_in b at) i ≡ context_in b (at + 5 * i)
-context_in_lem b at i l = ap (λ (p : Place). p.context) (list_at idle_place (λ j. place_in b (at + 5 * j)) 4 i l)
+use Rattle.block.specs.Blocks.{word, range_in, region_in, place_in, regions_in, places_in, regions_bounds, place_bounds}
+use Rattle.block.proofs.Runs.{runs_same}
 
 -- the part of `size` words from index `from` on: what is at k there is at j in the block
 module _ (b : List ℕ) (from size : ℕ) where

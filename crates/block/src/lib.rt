@@ -18,7 +18,7 @@ use rules::{Address, Range};
 pub fn word_at(b: &[u32], i: usize) -> u32
     ensures { result ≡ word b.now i }
 {
-    if i < b.len() { b[i] } else { 0 }
+    b.get(i).copied().unwrap_or(0)
 }
 
 // The range in words `at` and `at + 1`.
@@ -51,21 +51,9 @@ pub fn set_word(b: &mut [u32], i: usize, x: u32)
 pub fn raise(b: &mut [u32], i: usize, most: u32)
     ensures { b.new ≡ set b.old i ((word b.old i + 1) % (most + 1)) }
 {
-    let n = word_at(b, i) as u64 + 1;
-    let more = n % (most as u64 + 1);
+    let n = u64::from(word_at(b, i)) + 1;
+    let more = n % (u64::from(most) + 1);
     set_word(b, i, more as u32);
-}
-
-// The words of `v`, from index `at` on.
-fn copy_run(b: &mut [u32], at: usize, v: &[u32])
-    requires { at + length v.now ≤ length b.old }
-    ensures { b.new ≡ splice b.old at v.now }
-{
-    let mut i = 0;
-    while i < v.len() {
-        b[at + i] = v[i];
-        i += 1;
-    }
 }
 
 // The words of `v`, from index `at` on. Where they do not fit, nothing is written.
@@ -79,7 +67,7 @@ pub fn put_run(b: &mut [u32], at: usize, v: &[u32])
     if b.len() - at < v.len() {
         return;
     }
-    copy_run(b, at, v);
+    b[at..at + v.len()].copy_from_slice(v);
 }
 
 // WHAT A BLOCK SAYS

@@ -8,16 +8,16 @@ ghost use Rattle.rules.specs.Packets.{data_words, name_words};
 ghost use Rattle.bulk.specs.DumpBytes.{head_bytes, dump_packet_bytes, PacketFits, packet_fits};
 
 use rules::{DumpPacket, WordIndex};
-use wire::{get32, put_words, wide32};
+use wire::{get32, put_words, read32};
 
 // The header of a dump packet, as seven words.
 fn head_words(f: DumpPacket) -> [u32; 7]
     requires { (f.header.count ≤ 16383) × (f.header.unit ≤ 15) × (f.header.transaction ≤ 4095) × (f.words ≤ 1016) }
     ensures { word_bytes result ≡ head_bytes f f.words }
 {
-    let count = 49152 + f.header.count as u32;
+    let count = 49152 + u32::from(f.header.count);
     let size = 28 + 4 * f.words - 7;
-    let id = 4096 * f.header.unit as u32 + f.header.transaction as u32;
+    let id = 4096 * u32::from(f.header.unit) + u32::from(f.header.transaction);
     let start = f.range.start.0;
     let here = f.here.0;
     [
@@ -66,19 +66,14 @@ fn word_at(packet: &[u8], at: usize) -> u32
     if packet.len() < 60 {
         return get32(packet, at as u16);
     }
-    let high = wide32(packet[at]) * 256 + wide32(packet[at + 1]);
-    (high * 256 + wide32(packet[at + 2])) * 256 + wide32(packet[at + 3])
+    read32(packet, at)
 }
 
 // Whether an image of that length has n words from index `at` on.
 fn has_words(length: usize, at: WordIndex, n: usize) -> bool
     ensures { (result ≡ true → at.0 + n ≤ length) × (result ≡ false → length < at.0 + n) }
 {
-    let from = at.0;
-    if length < from {
-        return false;
-    }
-    n <= length - from
+    at.0 <= length && n <= length - at.0
 }
 
 // The n words of a packet from byte `at` on, from index `from` of a slice of words on.
@@ -86,11 +81,8 @@ fn store_run(words: &mut [u32], from: usize, packet: &[u8], at: usize, n: usize)
     requires { (at + 4 * n ≤ 60) × (from + n ≤ length words.old) }
     ensures { words.new ≡ splice words.old from (words_at n packet.now at) }
 {
-    let mut i = 0;
-    while i < n {
-        let w = word_at(packet, at + 4 * i);
-        words[from + i] = w;
-        i += 1;
+    for i in 0..n {
+        words[from + i] = word_at(packet, at + 4 * i);
     }
 }
 
@@ -105,8 +97,7 @@ pub fn store_words(image: &mut [u32], at: WordIndex, packet: &[u8], n: usize)
     if !has_words(image.len(), at, n) {
         return;
     }
-    let from = at.0;
-    store_run(image, from, packet, 16, n);
+    store_run(image, at.0, packet, 16, n);
 }
 
 // The same at the start of a slice of words.
@@ -132,11 +123,7 @@ pub fn name_words(words: &mut [u32], packet: &[u8])
 pub fn word_after(at: WordIndex, n: usize) -> WordIndex
     ensures { result.0 ≡ min (at.0 + n) 18446744073709551615 }
 {
-    let from = at.0;
-    if 18446744073709551615 - from < n {
-        return WordIndex(18446744073709551615);
-    }
-    WordIndex(from + n)
+    WordIndex(at.0.saturating_add(n))
 }
 
 // The n words of the image from index `at` on. Where it does not have them all, none.
@@ -148,6 +135,5 @@ pub fn words_at(image: &[u32], at: WordIndex, n: usize) -> &[u32]
         return &image[0..0];
     }
     let start = at.0;
-    let end = start + n;
-    &image[start..end]
+    &image[start..start + n]
 }

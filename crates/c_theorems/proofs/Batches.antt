@@ -1,10 +1,12 @@
 -- A batch from C: the single calls in order, and on a state's block the batch on the state.
 -- Assumes nothing.
+use Rattle.std.specs.Prelude.{Ok}
 use mathlib.Core.Path.{◌≡◌, refl, ap, ◌∙◌}
 use mathlib.Core.Bool.{true}
 use mathlib.Core.List.{List, [], ◌∷◌, ◌++◌}
 use Prim.Native.Nat.{ℕ, zero, suc, ◌*◌, ◌-◌, ◌<◌}
 use native.Mathlib.Omega.{arith}
+use lib.Dec.{lit<}
 use lib.ListN.{length}
 use Rattle.lists.specs.Splice.{splice}
 use Rattle.lists.proofs.Tests.{either}
@@ -13,23 +15,32 @@ use Rattle.rules.specs.Commands.{CommandArgs, command_call}
 use Rattle.rules.specs.GoodWhen.{Good}
 use Rattle.rules.specs.States.{good_state}
 use Rattle.rules.specs.declared.State.{State}
-use Rattle.rules.specs.declared.Verdict.TheVariants.{Accepted}
 use Rattle.rules.proofs.ExactEffect.{demand_2}
+use Rattle.rules.proofs.Refusals.{demand_1}
 use Rattle.batches.specs.Batch.{BatchArgs, Single, items_of, unfit, Left, item_args, with_item, left_by, batch}
 use Rattle.batches.specs.Batch as batches
 use Rattle.batches.specs.InOrder.{InOrder}
+use Rattle.batches.proofs.Items.{Within}
 use Rattle.batches.proofs.InOrder.{in_order_lem, all_refused}
 use Rattle.batches.proofs.Kept.{command_kept}
 use Rattle.batches.proofs.Lists.{packet_bytes}
 use Rattle.block.specs.Blocks.{word, block_of, is_block, state_of}
-use Rattle.block.specs.Calls.{CallLeft}
+use Rattle.block.specs.Calls.{CallLeft, on_state}
 use Rattle.block.proofs.GoodFits.{good_fits}
 use Rattle.lent_batch.specs.Batches.{on_block, lg_commands}
-use Rattle.lent_batch.proofs.Kept.{within}
 use Rattle.c_theorems.specs.BatchesFromC.{in_block, BatchesFromC}
 use Rattle.c_theorems.specs.FromC.{with_unused}
 use Rattle.c_theorems.proofs.FromC.{on_block_lem, other, bad_command}
 use Rattle.c_theorems.proofs.Unused.{command_with}
+
+-- an item on a block keeps its reply buffer's length, and its number and the length of its reply fit a byte
+within : (b : List ℕ) (c : CommandArgs) → Within c (on_block b c)
+unfolding on_state
+within b c =
+    let k = command_kept (state_of b) c in
+    either (is_block b)
+    (λ e. rw e record { reply_long = (demand_1.command (state_of b) c).lent.1; number_low = k.number; length_low = k.length })
+    (λ e. rw e record { reply_long = refl; number_low = lit< tt; length_low = lit< tt })
 
 -- a state of n regions that has a block, and whose calls from C are its calls
 record Blocked (n : ℕ) (s : State) : Type 0 where
@@ -95,7 +106,7 @@ module _ (block : State → List ℕ) (n : ℕ)
   batch_on h records =
       either (unfit a records)
       (λ e. rw e refl)
-      (λ e. rw e (ap (λ (l : Left (List ℕ)). record { verdict = Accepted; left = l }) (follows h (items_of a)).is))
+      (λ e. rw e (ap (λ (l : Left (List ℕ)). record { verdict = (Ok tt); left = l }) (follows h (items_of a)).is))
 
 -- the state's own block, and that with other words in the entries not in use
 single_own : (n : ℕ) (s : State) (c : CommandArgs) → Blocked n s → on_block (block_of s) c ≡ single_in block_of (batches.on_state s c)

@@ -1,5 +1,6 @@
 -- The ground's calls over blocks of words.
 -- Assumes nothing.
+use Rattle.std.specs.Prelude.{Some, Ok, Err}
 use mathlib.Core.Path.{◌≡◌, refl, sym}
 use mathlib.Core.Logic.{◌≢◌}
 use mathlib.Core.Bool.{Bool, true, false, ◌&&◌, ◌||◌}
@@ -16,14 +17,10 @@ use Rattle.rules.specs.Ground.{header_rules, writer_rows, write_command, read_co
 use Rattle.rules.specs.Packets.{packet_length, name_fits, field_rules, requested}
 use Rattle.rules.specs.Regions.{aligned}
 use Rattle.rules.specs.Results.{lowest, number}
-use Rattle.rules.specs.declared.Answer.TheVariants.{Refused}
 use Rattle.rules.specs.declared.Command.{Command}
 use Rattle.rules.specs.declared.Command.TheVariants.{Dump, Cancel, Load, PoolStatistics, SymbolValue, DumpSymbol}
-use Rattle.rules.specs.declared.Decoded.TheVariants.{Known}
 use Rattle.rules.specs.declared.DumpPacket.{DumpPacket}
 use Rattle.rules.specs.declared.Header.{Header}
-use Rattle.rules.specs.declared.PacketReading.TheVariants.{NoPacket, Packet}
-use Rattle.rules.specs.declared.Reading.TheVariants.{Unread, Read}
 use Rattle.rules.specs.declared.Refusal.{Refusal}
 use Rattle.rules.specs.declared.Refusal.TheVariants.{BadField, BufferLength}
 use Rattle.rules.specs.declared.Telecommand.{Telecommand}
@@ -51,7 +48,7 @@ module _ (b : List ℕ) (n : length b ≡ 21) where
       let z : min 65535 (word b 3) ≡ word b 3 = omega arith in
       rw (x, y, z)
 
-  write_as : (k : Command) → HeadFits b → command_in b ≡ Known k → WrittenAs b k
+  write_as : (k : Command) → HeadFits b → command_in b ≡ Some k → WrittenAs b k
   unfolding lg_write_command
   write_as k f e buffer = rw (eq-eqb (length b) 21 n, e, head_is f, data_is)
 
@@ -59,27 +56,27 @@ size_is : (w : ℕ) → w < 65536 → size_in w ≡ w
 size_is w h = rw (le-leb w 65535 (omega arith))
 
 module _ (b : List ℕ) where
-  dump_is : word b 0 ≡ 0 → word b 4 < 65536 → command_in b ≡ Known (Dump (request b))
+  dump_is : word b 0 ≡ 0 → word b 4 < 65536 → command_in b ≡ Some (Dump (request b))
   unfolding command_in
   dump_is c h = rw (c, size_is (word b 4) h)
 
-  cancel_is : word b 0 ≡ 1 → command_in b ≡ Known Cancel
+  cancel_is : word b 0 ≡ 1 → command_in b ≡ Some Cancel
   unfolding command_in
   cancel_is c = rw c
 
-  load_is : word b 0 ≡ 4 → word b 4 < 65536 → command_in b ≡ Known (Load (request b))
+  load_is : word b 0 ≡ 4 → word b 4 < 65536 → command_in b ≡ Some (Load (request b))
   unfolding command_in
   load_is c h = rw (c, size_is (word b 4) h)
 
-  pool_is : word b 0 ≡ 7 → word b 6 < 65536 → command_in b ≡ Known (PoolStatistics (word b 6))
+  pool_is : word b 0 ≡ 7 → word b 6 < 65536 → command_in b ≡ Some (PoolStatistics (word b 6))
   unfolding command_in
   pool_is c h = let e : min 65535 (word b 6) ≡ word b 6 = omega arith in rw (c, e)
 
-  value_is : word b 0 ≡ 8 → word b 19 < 256 → command_in b ≡ Known (SymbolValue (word b 19))
+  value_is : word b 0 ≡ 8 → word b 19 < 256 → command_in b ≡ Some (SymbolValue (word b 19))
   unfolding command_in
   value_is c h = let e : min 255 (word b 19) ≡ word b 19 = omega arith in rw (c, e)
 
-  by_name_is : word b 0 ≡ 9 → word b 4 < 65536 → word b 19 < 256 → command_in b ≡ Known (DumpSymbol (symbol_request b))
+  by_name_is : word b 0 ≡ 9 → word b 4 < 65536 → word b 19 < 256 → command_in b ≡ Some (DumpSymbol (symbol_request b))
   unfolding command_in
   by_name_is c h n = let e : min 255 (word b 19) ≡ word b 19 = omega arith in rw (c, size_is (word b 4) h, e)
 
@@ -96,17 +93,17 @@ none : ◌≡◌ {A = Bool} false true → ⊥
 none e = let z : ◌≡◌ {A = ℕ} 0 1 = cc in omega arith
 
 nine_of : (h : Header) (k : Command) (ws buffer : List ℕ) → packet_length k ≤ length buffer → (header_rules h && field_rules k) ≡ false
-    → write_command h k ws buffer ≡ record { answer = Refused BadField; buffer = buffer }
+    → write_command h k ws buffer ≡ record { answer = Err BadField; buffer = buffer }
 unfolding write_command writer_rows lowest
 nine_of h k ws buffer m e = rw (le-ltb (length buffer) (packet_length k) m, e)
 
 three_of : (h : Header) (k : Command) (ws buffer : List ℕ) → length buffer < packet_length k
-    → write_command h k ws buffer ≡ record { answer = Refused BufferLength; buffer = buffer }
+    → write_command h k ws buffer ≡ record { answer = Err BufferLength; buffer = buffer }
 unfolding write_command writer_rows lowest
 three_of h k ws buffer m = rw (lt-ltb (length buffer) (packet_length k) m)
 
 module _ (b : List ℕ) where
-  nine : length b ≡ 21 → (k : Command) → command_in b ≡ Known k → room_for (word b 0) ≡ packet_length k → (header_rules (header_in b) && field_rules k) ≡ false → Nine b
+  nine : length b ≡ 21 → (k : Command) → command_in b ≡ Some k → room_for (word b 0) ≡ packet_length k → (header_rules (header_in b) && field_rules k) ≡ false → Nine b
   unfolding lg_write_command
   nine n k ek r e buffer =
       rw (eq-eqb (length b) 21 n, ek, r)
@@ -114,7 +111,7 @@ module _ (b : List ℕ) where
       (λ l. rw (nine_of (header_in b) k (data_in b) buffer (leb-true _ _ l) e, l))
       (λ l. rw (three_of (header_in b) k (data_in b) buffer (leb-false _ _ l), l)))
 
-  known : one_of (word b 0) (0 ∷ 1 ∷ 4 ∷ 7 ∷ 8 ∷ 9 ∷ []) ≡ true → (k : Command) × (command_in b ≡ Known k) × (room_for (word b 0) ≡ packet_length k)
+  known : one_of (word b 0) (0 ∷ 1 ∷ 4 ∷ 7 ∷ 8 ∷ 9 ∷ []) ≡ true → (k : Command) × (command_in b ≡ Some k) × (room_for (word b 0) ≡ packet_length k)
   unfolding command_in
   known h =
       either (eqb (word b 0) 0) (λ e. (Dump (request_in b), rw e, rw (eqb-true (word b 0) 0 e)))
@@ -227,12 +224,12 @@ module _ (b buffer : List ℕ) where
 -- THE READERS
 
 module _ (p b : List ℕ) where
-  read_is : (f : Telecommand) → length b ≡ 21 → (read_command p).reading ≡ Read f
+  read_is : (f : Telecommand) → length b ≡ 21 → (read_command p).reading ≡ Ok f
       → lg_read_command p b ≡ record { number = 0; block = head_words f ++ (read_command p).words ++ tail_words f.command }
   unfolding lg_read_command
   read_is f n e = rw (eq-eqb (length b) 21 n, e)
 
-  unread_is : (r : Refusal) → length b ≡ 21 → (read_command p).reading ≡ Unread r → lg_read_command p b ≡ record { number = number r; block = b }
+  unread_is : (r : Refusal) → length b ≡ 21 → (read_command p).reading ≡ Err r → lg_read_command p b ≡ record { number = number r; block = b }
   unfolding lg_read_command
   unread_is r n e = rw (eq-eqb (length b) 21 n, e)
 
@@ -240,12 +237,12 @@ module _ (p b : List ℕ) where
   unfolding lg_read_command
   read_other n = rw (ne_eqb (length b) 21 n)
 
-  packet_is : (f : DumpPacket) → length b ≡ 8 → (read_packet p).reading ≡ Packet f
+  packet_is : (f : DumpPacket) → length b ≡ 8 → (read_packet p).reading ≡ Ok f
       → lg_read_packet p b ≡ record { number = 0; block = field_words f; bytes = length (read_packet p).part }
   unfolding lg_read_packet
   packet_is f n e = rw (eq-eqb (length b) 8 n, e)
 
-  no_packet_is : (r : Refusal) → length b ≡ 8 → (read_packet p).reading ≡ NoPacket r
+  no_packet_is : (r : Refusal) → length b ≡ 8 → (read_packet p).reading ≡ Err r
       → lg_read_packet p b ≡ record { number = number r; block = b; bytes = length (read_packet p).part }
   unfolding lg_read_packet
   no_packet_is r n e = rw (eq-eqb (length b) 8 n, e)

@@ -1,5 +1,6 @@
 -- A call reads only the regions in use: with other regions past them it does the same.
 -- Assumes nothing.
+use Rattle.std.specs.Prelude.{Option, Some, None, Result, Ok, Err}
 use mathlib.Core.Path.{◌≡◌, refl, sym, ap, ◌∙◌}
 use mathlib.Core.Bool.{Bool, true, ◌&&◌, cond}
 use mathlib.Core.List.{List, ◌++◌}
@@ -27,26 +28,21 @@ use Rattle.rules.specs.declared.Region.{Region}
 use Rattle.rules.specs.declared.State.{State}
 use Rattle.rules.specs.declared.Task.{Task}
 use Rattle.rules.specs.declared.Task.TheVariants.{Nothing, DumpRange, CancelDump, LoadRange, CountPool, TellValue}
-use Rattle.rules.specs.declared.Verdict.{Verdict}
-use Rattle.rules.specs.declared.Verdict.TheVariants.{Accepted, Rejected}
 use Rattle.rules.proofs.Rules.{start_out}
 use Rattle.rules.proofs.Table.{table_count}
-use Rattle.tasks.specs.declared.Sought.{Sought}
-use Rattle.tasks.specs.declared.Sought.TheVariants.{Denied, Asked}
 use Rattle.regions.specs.Lookup.{found_in, find_region, word_index, found_index}
-use Rattle.regions.specs.declared.Found.TheVariants.{At, EndsOutside}
 use Rattle.places.specs.Turns.{next_turn}
-use Rattle.places.specs.declared.Turn.{Turn}
-use Rattle.places.specs.declared.Turn.TheVariants.{Nobody, Next}
 use Rattle.opening.specs.Opening.{lent_by, opened_by, good_words, find, index}
 use Rattle.decide.specs.Decisions.{by_task, by_sought, decision, state_after, carried_out}
 use Rattle.decide.specs.declared.Decision.{Decision}
-use Rattle.decide.specs.declared.Decision.TheVariants.{Refuse, Dump as Placed, Cancel as Freed, Load as Stored, Reply, Tell}
+use Rattle.decide.specs.declared.Decision.TheVariants.{Dump as Placed, Cancel as Freed, Load as Stored, Reply, Tell}
 use Rattle.decide.proofs.Commands.{decided}
 use Rattle.sending.specs.Sendings.{by_turn, sending_as, sending, sent_out}
-use Rattle.sending.specs.declared.Sending.{Sending}
-use Rattle.sending.specs.declared.Sending.TheVariants.{Keep, Send}
 use Rattle.sending.proofs.Slots.{slot_decided}
+use Rattle.rules.specs.declared.Refusal.{Refusal}
+use Rattle.places.specs.declared.Seat.{Seat}
+use Rattle.sending.specs.declared.Piece.{Piece}
+use Rattle.regions.specs.declared.Miss.TheVariants.{EndsOutside}
 
 sum_same : (f g : ℕ → ℕ) (n : ℕ) → ((i : ℕ) → i < n → f i ≡ g i) → sum_below f n ≡ sum_below g n
 sum_same f g zero h = refl
@@ -113,7 +109,7 @@ module _ (rs qs : List Region) (n : ℕ) (same : (i : ℕ) → i < n → region_
 
   found_same : (a : Range) (k : ℕ) → k < n → found_in qs a k ≡ found_in rs a k
   found_same a k l =
-      ap (λ (r : Region). cond (leb (end_of a) (end_of r.range)) (At (record { region = k; load = r.load; dump = r.dump })) EndsOutside) (same k l)
+      ap (λ (r : Region). cond (leb (end_of a) (end_of r.range)) (Ok (record { region = k; load = r.load; dump = r.dump })) (Err EndsOutside)) (same k l)
 
   find_same : (a : Range) → find_region qs n a ≡ find_region rs n a
   unfolding find_region
@@ -183,9 +179,9 @@ module _ (s : State) (qs : List Region) (same : (i : ℕ) → i < s.count → re
   task_same image t (CountPool i) = rw (begins_same (pool_at s.pools i), lookup_same (pool_at s.pools i))
   task_same image t (TellValue v) = refl
 
-  sought_same : (image : List ℕ) (t : ℕ) (a : Sought) → by_sought (with_regions s qs) image t a ≡ by_sought s image t a
-  sought_same image t (Denied r) = refl
-  sought_same image t (Asked k) = task_same image t k
+  sought_same : (image : List ℕ) (t : ℕ) (a : Result Task Refusal) → by_sought (with_regions s qs) image t a ≡ by_sought s image t a
+  sought_same image t (Err r) = refl
+  sought_same image t (Ok k) = task_same image t k
 
   decision_same : (c : CommandArgs) → decision (with_regions s qs) c ≡ decision s c
   unfolding decision
@@ -193,15 +189,15 @@ module _ (s : State) (qs : List Region) (same : (i : ℕ) → i < s.count → re
       rw image_same
       (sought_same c.image (command_transaction c.packet) (opened_by (good_words s) (length c.image) (length c.reply) c.packet c.symbols s.unit))
 
-  after_same : (d : Decision) → state_after (with_regions s qs) d ≡ with_regions (state_after s d) qs
-  after_same (Refuse r) = either (counted r) (λ e. rw e) (λ e. rw e)
-  after_same (Placed x) = refl
-  after_same (Freed x) = refl
-  after_same (Stored x) = refl
-  after_same (Reply x) = refl
-  after_same (Tell x) = refl
+  after_same : (d : Result Decision Refusal) → state_after (with_regions s qs) d ≡ with_regions (state_after s d) qs
+  after_same (Err r) = either (counted r) (λ e. rw e) (λ e. rw e)
+  after_same (Ok (Placed x)) = refl
+  after_same (Ok (Freed x)) = refl
+  after_same (Ok (Stored x)) = refl
+  after_same (Ok (Reply x)) = refl
+  after_same (Ok (Tell x)) = refl
 
-  carried_same : (c : CommandArgs) (d : Decision) → carried_out (with_regions s qs) c d ≡ on_regions qs (carried_out s c d)
+  carried_same : (c : CommandArgs) (d : Result Decision Refusal) → carried_out (with_regions s qs) c d ≡ on_regions qs (carried_out s c d)
   carried_same c d = rw (after_same d)
 
   pub command_same : (c : CommandArgs) → command_call (with_regions s qs) c ≡ on_regions qs (command_call s c)
@@ -213,21 +209,21 @@ module _ (s : State) (qs : List Region) (same : (i : ℕ) → i < s.count → re
 
   -- THE SLOT CALL
 
-  turn_same : (tick : ℕ) (t : Turn) → by_turn (with_regions s qs) tick t ≡ by_turn s tick t
-  turn_same tick Nobody = refl
-  turn_same tick (Next x) = rw (begins_same x.dump.range, lookup_same x.dump.range)
+  turn_same : (tick : ℕ) (t : Option Seat) → by_turn (with_regions s qs) tick t ≡ by_turn s tick t
+  turn_same tick None = refl
+  turn_same tick (Some x) = rw (begins_same x.dump.range, lookup_same x.dump.range)
 
-  verdict_same : (tick : ℕ) (v : Verdict) → sending_as (with_regions s qs) tick v ≡ sending_as s tick v
-  verdict_same tick (Rejected r) = refl
-  verdict_same tick Accepted = turn_same tick (next_turn s.places s.last)
+  verdict_same : (tick : ℕ) (v : Result (Unit {0}) Refusal) → sending_as (with_regions s qs) tick v ≡ sending_as s tick v
+  verdict_same tick (Err r) = refl
+  verdict_same tick (Ok tt) = turn_same tick (next_turn s.places s.last)
 
   sending_same : (c : SlotArgs) → sending (with_regions s qs) c ≡ sending s c
   unfolding sending
   sending_same c = rw image_same (verdict_same c.tick (lent_by (good_words s) (length c.image) 4092 (length c.buffer)))
 
-  sent_same : (c : SlotArgs) (d : Sending) → sent_out (with_regions s qs) c d ≡ on_regions qs (sent_out s c d)
-  sent_same c (Keep r) = refl
-  sent_same c (Send x) = refl
+  sent_same : (c : SlotArgs) (d : Result Piece Refusal) → sent_out (with_regions s qs) c d ≡ on_regions qs (sent_out s c d)
+  sent_same c (Err r) = refl
+  sent_same c (Ok x) = refl
 
   pub slot_same : (c : SlotArgs) → slot_call (with_regions s qs) c ≡ on_regions qs (slot_call s c)
   slot_same c =
@@ -238,9 +234,9 @@ module _ (s : State) (qs : List Region) (same : (i : ℕ) → i < s.count → re
 
 -- A SLOT CALL KEEPS the regions and their number
 module _ (s : State) (c : SlotArgs) where
-  sent_kept : (d : Sending) → ((sent_out s c d).state.regions ≡ s.regions) × ((sent_out s c d).state.count ≡ s.count)
-  sent_kept (Keep r) = (refl, refl)
-  sent_kept (Send x) = (refl, refl)
+  sent_kept : (d : Result Piece Refusal) → ((sent_out s c d).state.regions ≡ s.regions) × ((sent_out s c d).state.count ≡ s.count)
+  sent_kept (Err r) = (refl, refl)
+  sent_kept (Ok x) = (refl, refl)
 
   pub slot_kept : ((slot_call s c).state.regions ≡ s.regions) × ((slot_call s c).state.count ≡ s.count)
   slot_kept = rw (slot_decided s c) (sent_kept (sending s c))

@@ -1,10 +1,9 @@
 -- What a batch from C is: the single calls from C in order, and on the block of a good state the batch on that state.
-use Rattle.std.specs.Prelude.{◌≡◌, true, false, List, [], ◌∷◌, ◌++◌, ℕ, ◌*◌, ◌-◌, ◌≤◌, ◌<◌, length, get_or, take, drop, replicate}
+use Rattle.std.specs.Prelude.{◌≡◌, true, false, List, [], ◌∷◌, ◌++◌, ℕ, ◌*◌, ◌-◌, ◌≤◌, ◌<◌, length, get_or, take, drop, replicate, Ok}
 use Rattle.wire.specs.Bytes.{AreBytes}
 use Rattle.rules.specs.GoodWhen.{Good}
 use Rattle.rules.specs.States.{good_state}
 use Rattle.rules.specs.declared.State.{State}
-use Rattle.rules.specs.declared.Verdict.TheVariants.{Accepted}
 use Rattle.batches.specs.Batch.{BatchArgs, lends, on_state, items_of, bytes_from, unfit, Batch, batch}
 use Rattle.batches.specs.InOrder.{InOrder}
 use Rattle.block.specs.Blocks.{block_of, is_block, state_of}
@@ -35,7 +34,7 @@ pub record BatchesFromC : Type 0 where
       → let o = lg_command b (record { packet = bytes_from bytes start n; symbols = symbols; image = image; reply = take 32 replies }) in
       lg_commands b (lends bytes (start ∷ []) (n ∷ []) symbols image replies) records
       ≡ record {
-        verdict = Accepted;
+        verdict = (Ok tt);
         left =
             record {
               state = o.state;
@@ -49,7 +48,7 @@ pub record BatchesFromC : Type 0 where
       → (a : BatchArgs) (records : ℕ) → unfit a records ≡ false
       → lg_commands b a records
       ≡ record {
-        verdict = Accepted;
+        verdict = (Ok tt);
         left =
             record {
               state = b;

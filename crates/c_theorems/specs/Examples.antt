@@ -1,8 +1,7 @@
 -- The C interface on literal words and bytes: what c/leatgarnet.h says of each, with a value of its own in every field. So two definitions that were
 -- changed alike, as a word written and read at another place, are seen here.
-use Rattle.std.specs.Prelude.{◌≡◌, List, [], ◌∷◌, ◌++◌, map, ℕ, set, take, drop, replicate}
+use Rattle.std.specs.Prelude.{◌≡◌, List, [], ◌∷◌, ◌++◌, map, ℕ, set, take, drop, replicate, Ok, Err}
 use Rattle.rules.specs.declared.Refusal.TheVariants.{BufferLength}
-use Rattle.rules.specs.declared.Verdict.TheVariants.{Accepted, Rejected}
 use Rattle.batches.specs.Batch.{BatchArgs, lends}
 use Rattle.block.specs.Calls.{CallLeft, lg_start_up, lg_slot, lg_command}
 use Rattle.lent_batch.specs.Batches.{lg_commands}
@@ -145,7 +144,7 @@ pub record Examples : Type 0 where
   -- A BATCH from that box: a dump, pool statistics, and two items that leave the buffer; a reply buffer and a list with one more of each
   pub batch_left : lg_commands running several 5
       ≡ record {
-        verdict = Accepted;
+        verdict = (Ok tt);
         left =
             record {
               state = box ((1 ∷ 0x456 ∷ 0x2004 ∷ 5 ∷ 0 ∷ []) ++ (1 ∷ 0x123 ∷ 0x3000 ∷ 1020 ∷ 1016 ∷ []) ++ replicate 10 0) (2 ∷ 6 ∷ 6 ∷ 9 ∷ 10 ∷ 9 ∷ []);
@@ -157,9 +156,9 @@ pub record Examples : Type 0 where
       }
   -- to a block that is no state each item gets 1; too few records are refused with 3 before that
   pub batch_no_state : lg_commands (drop 1 running) several 4
-      ≡ record { verdict = Accepted; left = record { state = drop 1 running; image = image; replies = replicate 129 0xEE; answers = replicate 4 (record { number = 1; length = 0 }) } }
+      ≡ record { verdict = (Ok tt); left = record { state = drop 1 running; image = image; replies = replicate 129 0xEE; answers = replicate 4 (record { number = 1; length = 0 }) } }
   pub batch_refused : lg_commands (drop 1 running) several 3
-      ≡ record { verdict = Rejected BufferLength; left = record { state = drop 1 running; image = image; replies = replicate 129 0xEE; answers = [] } }
+      ≡ record { verdict = Err BufferLength; left = record { state = drop 1 running; image = image; replies = replicate 129 0xEE; answers = [] } }
   -- THE COMMAND BLOCK, written: E1 and E3, a cancel and pool statistics; words that the code does not use are 9
   pub write_e1 : lg_write_command (asked 0 0 0x123 2 0x1004 9) (replicate 16 7) ≡ record { number = 0; bytes = 16; buffer = e1 }
   pub write_e3 : lg_write_command (set (asked 4 1 0xABC 1 0x1000 9) 7 0x01020304) (replicate 60 7) ≡ record { number = 0; bytes = 60; buffer = e3 }

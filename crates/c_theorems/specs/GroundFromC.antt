@@ -1,6 +1,6 @@
 -- What the command writer and the two readers are to C: the ground's calls over blocks of words. With FromC this fixes what the definitions of the
 -- calls from C share with the code.
-use Rattle.std.specs.Prelude.{◌≡◌, ◌≢◌, true, false, cond, List, [], ◌∷◌, ◌++◌, map, ℕ, ◌<◌, leb, eqb, length, get_or, take, drop, replicate}
+use Rattle.std.specs.Prelude.{◌≡◌, ◌≢◌, true, false, cond, List, [], ◌∷◌, ◌++◌, map, ℕ, ◌<◌, leb, eqb, length, get_or, take, drop, replicate, Ok, Err}
 use Rattle.rules.specs.Cases.{one_of}
 use Rattle.rules.specs.Ground.{write_command, read_command, read_packet}
 use Rattle.rules.specs.Results.{number, answer_number, answer_length}
@@ -8,8 +8,6 @@ use Rattle.rules.specs.declared.Command.{Command}
 use Rattle.rules.specs.declared.Command.TheVariants.{Dump, Cancel, Load, PoolStatistics, SymbolValue, DumpSymbol}
 use Rattle.rules.specs.declared.DumpPacket.{DumpPacket}
 use Rattle.rules.specs.declared.Header.{Header}
-use Rattle.rules.specs.declared.PacketReading.TheVariants.{NoPacket, Packet}
-use Rattle.rules.specs.declared.Reading.TheVariants.{Unread, Read}
 use Rattle.rules.specs.declared.Refusal.{Refusal}
 use Rattle.rules.specs.declared.Request.{Request}
 use Rattle.rules.specs.declared.SymbolRequest.{SymbolRequest}
@@ -86,13 +84,13 @@ pub record GroundFromC : Type 0 where
       → lg_write_command b buffer ≡ record { number = 6; bytes = 0; buffer = buffer }
   pub write_lengths : (b buffer : List ℕ) → length b ≢ 21 → lg_write_command b buffer ≡ record { number = 3; bytes = 0; buffer = buffer }
   -- THE COMMAND READER: the fields and the words beside them; a refusal; another length
-  pub read : (p b : List ℕ) (f : Telecommand) → length b ≡ 21 → (read_command p).reading ≡ Read f
+  pub read : (p b : List ℕ) (f : Telecommand) → length b ≡ 21 → (read_command p).reading ≡ Ok f
       → lg_read_command p b ≡ record { number = 0; block = head_words f ++ (read_command p).words ++ tail_words f.command }
-  pub unread : (p b : List ℕ) (r : Refusal) → length b ≡ 21 → (read_command p).reading ≡ Unread r → lg_read_command p b ≡ record { number = number r; block = b }
+  pub unread : (p b : List ℕ) (r : Refusal) → length b ≡ 21 → (read_command p).reading ≡ Err r → lg_read_command p b ≡ record { number = number r; block = b }
   pub read_lengths : (p b : List ℕ) → length b ≢ 21 → lg_read_command p b ≡ record { number = 3; block = b }
   -- THE DUMP PACKET READER: the same, with how many bytes the data part has
-  pub packet : (p b : List ℕ) (f : DumpPacket) → length b ≡ 8 → (read_packet p).reading ≡ Packet f
+  pub packet : (p b : List ℕ) (f : DumpPacket) → length b ≡ 8 → (read_packet p).reading ≡ Ok f
       → lg_read_packet p b ≡ record { number = 0; block = field_words f; bytes = length (read_packet p).part }
-  pub no_packet : (p b : List ℕ) (r : Refusal) → length b ≡ 8 → (read_packet p).reading ≡ NoPacket r
+  pub no_packet : (p b : List ℕ) (r : Refusal) → length b ≡ 8 → (read_packet p).reading ≡ Err r
       → lg_read_packet p b ≡ record { number = number r; block = b; bytes = length (read_packet p).part }
   pub packet_lengths : (p b : List ℕ) → length b ≢ 8 → lg_read_packet p b ≡ record { number = 3; block = b; bytes = 0 }

@@ -1,5 +1,6 @@
 -- What the steps of the two readers leave.
 -- Assumes nothing.
+use Rattle.std.specs.Prelude.{Result, Ok, Err}
 use mathlib.Core.Path.{◌≡◌, refl, sym, ap, ◌∙◌}
 use mathlib.Core.Logic.{◌≢◌}
 use mathlib.Core.List.{List, ◌++◌}
@@ -20,14 +21,8 @@ use Rattle.rules.specs.declared.Command.{Command}
 use Rattle.rules.specs.declared.Command.TheVariants.{Dump, Cancel, Load, PoolStatistics, SymbolValue, DumpSymbol}
 use Rattle.rules.specs.declared.CommandRead.{CommandRead}
 use Rattle.rules.specs.declared.DumpPacket.{DumpPacket}
-use Rattle.rules.specs.declared.PacketReading.{PacketReading}
-use Rattle.rules.specs.declared.PacketReading.TheVariants.{NoPacket, Packet}
-use Rattle.rules.specs.declared.Reading.{Reading}
-use Rattle.rules.specs.declared.Reading.TheVariants.{Unread, Read}
 use Rattle.rules.specs.declared.Refusal.{Refusal}
 use Rattle.rules.specs.declared.Telecommand.{Telecommand}
-use Rattle.rules.specs.declared.Verdict.{Verdict}
-use Rattle.rules.specs.declared.Verdict.TheVariants.{Accepted, Rejected}
 use Rattle.rules.proofs.PacketTests.{packet_out, packet_in_lem}
 use Rattle.block.proofs.Runs.{splice_all}
 use Rattle.command_reader.proofs.Steps.{read_result}
@@ -85,16 +80,16 @@ module _ (p b : List ℕ) where
   unfolding lg_read_command
   command_other n = rw (ne_eqb (length b) 21 n) (refl, refl)
 
-  module _ (n : length b ≡ 21) (d : Reading) (ed : d ≡ (read_command p).reading) where
-    pub command_unread : (r : Refusal) → d ≡ Unread r → (m : ℕ) → m ≡ number r → (m ≡ (lg_read_command p b).number) × (b ≡ (lg_read_command p b).block)
+  module _ (n : length b ≡ 21) (d : Result Telecommand Refusal) (ed : d ≡ (read_command p).reading) where
+    pub command_unread : (r : Refusal) → d ≡ Err r → (m : ℕ) → m ≡ number r → (m ≡ (lg_read_command p b).number) × (b ≡ (lg_read_command p b).block)
     unfolding lg_read_command
     command_unread r er m em = rw (eq-eqb (length b) 21 n, ← ed, er) (em, refl)
 
     -- the words beside the fields
-    words_beside_lem : (f : Telecommand) → d ≡ Read f → (read_command p).words ≡ words_beside p f.command
+    words_beside_lem : (f : Telecommand) → d ≡ Ok f → (read_command p).words ≡ words_beside p f.command
     words_beside_lem f ef = sym (ap (λ (r : CommandRead). r.words) (read_result p d (words_beside p f.command) ed (rw ef)))
 
-    pub command_done : (f : Telecommand) → d ≡ Read f → (h : List ℕ) → h ≡ head_words f
+    pub command_done : (f : Telecommand) → d ≡ Ok f → (h : List ℕ) → h ≡ head_words f
         → (b₁ : List ℕ) → (0 + length h ≤ length b → b₁ ≡ splice b 0 h)
         → (part : List ℕ) → (12 ≤ length (take 12 (drop 7 b₁)) → part ≡ splice (take 12 (drop 7 b₁)) 0 (words_beside p f.command))
         → (t : List ℕ) → t ≡ tail_words f.command
@@ -116,17 +111,17 @@ module _ (p b : List ℕ) where
 
 -- THE DUMP PACKET READER
 
-words_read : PacketReading → ℕ
-words_read (NoPacket r) = 0
-words_read (Packet f) = f.words
+words_read : Result DumpPacket Refusal → ℕ
+words_read (Err r) = 0
+words_read (Ok f) = f.words
 
-module _ (p : List ℕ) (r : PacketReading) (er : r ≡ (read_packet p).reading) where
+module _ (p : List ℕ) (r : Result DumpPacket Refusal) (er : r ≡ (read_packet p).reading) where
   -- the packet's words, and how many bytes its data part has
   record PartIs (f : DumpPacket) : Type 0 where
     low : f.words ≤ 1016
     bytes : 4 * f.words ≡ length (read_packet p).part
 
-  part_is : (f : DumpPacket) → r ≡ Packet f → PartIs f
+  part_is : (f : DumpPacket) → r ≡ Ok f → PartIs f
   unfolding words_read piece_words
   part_is f ef =
       let zero : packet_number (read_packet p).reading ≡ 0 = rw (← er, ef) in
@@ -137,18 +132,18 @@ module _ (p : List ℕ) (r : PacketReading) (er : r ≡ (read_packet p).reading)
       let b = i.bytes in
       record { low = omega arith; bytes = rw (q, length-drop) (omega arith) }
 
-  pub packet_low : (f : DumpPacket) → r ≡ Packet f → f.words ≤ 1016
+  pub packet_low : (f : DumpPacket) → r ≡ Ok f → f.words ≤ 1016
   packet_low f ef = (part_is f ef).low
 
-  packet_bytes : (f : DumpPacket) → r ≡ Packet f → 4 * f.words ≡ length (read_packet p).part
+  packet_bytes : (f : DumpPacket) → r ≡ Ok f → 4 * f.words ≡ length (read_packet p).part
   packet_bytes f ef = (part_is f ef).bytes
 
 -- a packet that is refused has no data part
-conclude_no_part : (p : List ℕ) (v : Verdict) (r : Refusal) → (conclude_packet p v).reading ≡ NoPacket r → 0 ≡ length (conclude_packet p v).part
-conclude_no_part p (Rejected q) r e = refl
-conclude_no_part p Accepted r e = let z : ◌≡◌ {A = ℕ} 0 1 = cc in absurd (omega arith)
+conclude_no_part : (p : List ℕ) (v : Result (Unit {0}) Refusal) (r : Refusal) → (conclude_packet p v).reading ≡ Err r → 0 ≡ length (conclude_packet p v).part
+conclude_no_part p (Err q) r e = refl
+conclude_no_part p (Ok tt) r e = let z : ◌≡◌ {A = ℕ} 0 1 = cc in absurd (omega arith)
 
-no_part : (p : List ℕ) {r : Refusal} → (read_packet p).reading ≡ NoPacket r → 0 ≡ length (read_packet p).part
+no_part : (p : List ℕ) {r : Refusal} → (read_packet p).reading ≡ Err r → 0 ≡ length (read_packet p).part
 unfolding read_packet
 no_part p {r} e = conclude_no_part p (lowest (packet_rows p)) r e
 
@@ -157,13 +152,13 @@ module _ (p b : List ℕ) where
   unfolding lg_read_packet
   packet_other n = rw (ne_eqb (length b) 8 n) (refl, refl, refl)
 
-  module _ (n : length b ≡ 8) (d : PacketReading) (ed : d ≡ (read_packet p).reading) where
-    pub packet_unread : (r : Refusal) → d ≡ NoPacket r → (m : ℕ) → m ≡ number r
+  module _ (n : length b ≡ 8) (d : Result DumpPacket Refusal) (ed : d ≡ (read_packet p).reading) where
+    pub packet_unread : (r : Refusal) → d ≡ Err r → (m : ℕ) → m ≡ number r
         → (m ≡ (lg_read_packet p b).number) × (b ≡ (lg_read_packet p b).block) × (0 ≡ (lg_read_packet p b).bytes)
     unfolding lg_read_packet
     packet_unread r er m em = let z = no_part p (sym ed ∙ er) in rw (eq-eqb (length b) 8 n, ← ed, er) (em, refl, z)
 
-    pub packet_done : (f : DumpPacket) → d ≡ Packet f → (v : List ℕ) → v ≡ field_words f → (b' : List ℕ) → (0 + length v ≤ length b → b' ≡ splice b 0 v)
+    pub packet_done : (f : DumpPacket) → d ≡ Ok f → (v : List ℕ) → v ≡ field_words f → (b' : List ℕ) → (0 + length v ≤ length b → b' ≡ splice b 0 v)
         → (0 ≡ (lg_read_packet p b).number) × (b' ≡ (lg_read_packet p b).block) × (4 * f.words ≡ (lg_read_packet p b).bytes)
     unfolding lg_read_packet
     packet_done f ef v ev b' e =

@@ -1,14 +1,12 @@
 -- What the command writer and the two readers of the C interface (c/leatgarnet.h) leave: the number, the lent block or buffer, and the bytes.
-use Rattle.std.specs.Prelude.{cond, List, ℕ, eqb, length}
+use Rattle.std.specs.Prelude.{cond, List, ℕ, eqb, length, Option, Some, None, Result, Ok, Err}
 use Rattle.rules.specs.Ground.{Wrote, write_command, read_command, reading_number, read_packet, packet_number}
 use Rattle.rules.specs.Results.{answer_number, answer_length}
-use Rattle.rules.specs.declared.Decoded.{Decoded}
-use Rattle.rules.specs.declared.Decoded.TheVariants.{Unknown, Known}
-use Rattle.rules.specs.declared.PacketReading.{PacketReading}
-use Rattle.rules.specs.declared.PacketReading.TheVariants.{NoPacket, Packet}
-use Rattle.rules.specs.declared.Reading.{Reading}
-use Rattle.rules.specs.declared.Reading.TheVariants.{Unread, Read}
 use Rattle.ground_blocks.specs.Fields.{header_in, command_in, data_in, block_words, field_words}
+use Rattle.rules.specs.declared.Refusal.{Refusal}
+use Rattle.rules.specs.declared.Telecommand.{Telecommand}
+use Rattle.rules.specs.declared.DumpPacket.{DumpPacket}
+use Rattle.rules.specs.declared.Command.{Command}
 
 abbrev pub command_words : ℕ
 command_words = 21
@@ -26,9 +24,9 @@ pub record WriteLeft : Type 0 where
 abbrev pub wrote_left : Wrote → WriteLeft
 wrote_left w = record { number = answer_number w.answer; bytes = answer_length w.answer; buffer = w.buffer }
 
-abbrev pub write_left : List ℕ → List ℕ → Decoded → WriteLeft
-write_left b buffer Unknown = record { number = 6; bytes = 0; buffer = buffer }
-write_left b buffer (Known k) = wrote_left (write_command (header_in b) k (data_in b) buffer)
+abbrev pub write_left : List ℕ → List ℕ → Option Command → WriteLeft
+write_left b buffer None = record { number = 6; bytes = 0; buffer = buffer }
+write_left b buffer (Some k) = wrote_left (write_command (header_in b) k (data_in b) buffer)
 
 -- a block of another length: 3, before all else
 unfoldable pub lg_write_command : List ℕ → List ℕ → WriteLeft
@@ -42,9 +40,9 @@ pub record ReadLeft : Type 0 where
   pub block : List ℕ
 
 -- the command's own words, the twelve beside it, and its last two
-abbrev pub command_block : List ℕ → Reading → List ℕ → List ℕ
-command_block b (Unread r) ws = b
-command_block b (Read f) ws = block_words f ws
+abbrev pub command_block : List ℕ → Result Telecommand Refusal → List ℕ → List ℕ
+command_block b (Err r) ws = b
+command_block b (Ok f) ws = block_words f ws
 
 -- a block of another length: 3, before all else
 unfoldable pub lg_read_command : List ℕ → List ℕ → ReadLeft
@@ -55,9 +53,9 @@ lg_read_command p b =
 
 -- A DUMP PACKET READ
 
-abbrev pub packet_block : List ℕ → PacketReading → List ℕ
-packet_block b (NoPacket r) = b
-packet_block b (Packet f) = field_words f
+abbrev pub packet_block : List ℕ → Result DumpPacket Refusal → List ℕ
+packet_block b (Err r) = b
+packet_block b (Ok f) = field_words f
 
 pub record PacketLeft : Type 0 where
   pub number : ℕ

@@ -9,7 +9,7 @@ ghost use Rattle.lent_batch.specs.Batches.{lg_commands};
 ghost use Rattle.whole_dump.specs.Check.{check_dump};
 ghost use Rattle.capi.specs.Commands.{lg_write_command, lg_read_command, lg_read_packet};
 
-use answers::{ItemAnswer, number_of, put_records};
+use answers::{ItemAnswer, put_records};
 use block::put_run;
 use command_reader::{put_beside, reading_of};
 use command_writer::write_packet;
@@ -20,16 +20,14 @@ use lent_command::command;
 use lent_slot::slot;
 use lent_state::start_up;
 use packet_reader::read_packet;
-use results::{hand_over, refusal_number, verdict_number};
-use rules::{Decoded, PacketReading, Reading};
+use results::{hand_over, number_of};
 
 // START-UP
 
 pub fn lg_start_up(table: &[u32], state: &mut [u32]) -> u32
     ensures { (result ≡ (lg_start_up table.now state.old).number) × (state.new ≡ (lg_start_up table.now state.old).state) }
 {
-    let verdict = start_up(table, state);
-    verdict_number(verdict)
+    number_of(&start_up(table, state))
 }
 
 // CALLS ON A STATE
@@ -43,7 +41,7 @@ pub fn lg_slot(
 ) -> u32
     ensures { (result ≡ (lg_slot state.old tick image.now buffer.old).number) × (state.new ≡ (lg_slot state.old tick image.now buffer.old).state) × (buffer.new ≡ (lg_slot state.old tick image.now buffer.old).buffer) × (bytes.new ≡ (lg_slot state.old tick image.now buffer.old).bytes) }
 {
-    slot(state, tick, image, buffer, bytes)
+    hand_over(slot(state, tick, image, buffer), bytes)
 }
 
 pub fn lg_command(
@@ -56,7 +54,7 @@ pub fn lg_command(
 ) -> u32
     ensures { (result ≡ (lg_command state.old (record { packet = packet.entry.now; symbols = symbols.now; image = image.old; reply = reply.old })).number) × (state.new ≡ (lg_command state.old (record { packet = packet.entry.now; symbols = symbols.now; image = image.old; reply = reply.old })).state) × (image.new ≡ (lg_command state.old (record { packet = packet.entry.now; symbols = symbols.now; image = image.old; reply = reply.old })).image) × (reply.new ≡ (lg_command state.old (record { packet = packet.entry.now; symbols = symbols.now; image = image.old; reply = reply.old })).buffer) × (bytes.new ≡ (lg_command state.old (record { packet = packet.entry.now; symbols = symbols.now; image = image.old; reply = reply.old })).bytes) }
 {
-    command(state, packet, symbols, image, reply, bytes)
+    hand_over(command(state, packet, symbols, image, reply), bytes)
 }
 
 pub fn lg_commands(
@@ -84,7 +82,7 @@ pub fn lg_commands(
         answers.len(),
     );
     put_records(answers, a);
-    number_of(a)
+    a.number
 }
 
 // THE COMMAND WRITER
@@ -96,16 +94,11 @@ pub fn lg_write_command(command: &[u32], buffer: &mut [u8], bytes: &mut u32) -> 
     if command.len() != 21 {
         return 3;
     }
-    let decoded = command_in(command);
-    match decoded {
-        Decoded::Unknown => {
-            return 6;
-        }
-        Decoded::Known(k) => {
-            let h = header_in(command);
-            return hand_over(write_packet(h, k, &command[7..19], buffer), bytes);
-        }
-    }
+    let Some(k) = command_in(command) else {
+        return 6;
+    };
+    let h = header_in(command);
+    hand_over(write_packet(h, k, &command[7..19], buffer), bytes)
 }
 
 // THE READERS
@@ -116,19 +109,13 @@ pub fn lg_read_command(packet: &[u8], command: &mut [u32]) -> u32
     if command.len() != 21 {
         return 3;
     }
-    let reading = reading_of(packet);
-    match reading {
-        Reading::Unread(r) => {
-            return refusal_number(r);
-        }
-        Reading::Read(f) => {
-            let head = head_words(f);
-            put_run(command, 0, &head);
-            let k = f.command;
-            put_beside(&mut command[7..19], packet, k);
-            let tail = tail_words(k);
-            put_run(command, 19, &tail);
-            return 0;
+    match reading_of(packet) {
+        Err(r) => u32::from(r),
+        Ok(f) => {
+            put_run(command, 0, &head_words(f));
+            put_beside(&mut command[7..19], packet, f.command);
+            put_run(command, 19, &tail_words(f.command));
+            0
         }
     }
 }
@@ -140,16 +127,12 @@ pub fn lg_read_packet(packet: &[u8], fields: &mut [u32], bytes: &mut u32) -> u32
     if fields.len() != 8 {
         return 3;
     }
-    let reading = read_packet(packet);
-    match reading {
-        PacketReading::NoPacket(r) => {
-            return refusal_number(r);
-        }
-        PacketReading::Packet(f) => {
-            let v = field_words(f);
-            put_run(fields, 0, &v);
+    match read_packet(packet) {
+        Err(r) => u32::from(r),
+        Ok(f) => {
+            put_run(fields, 0, &field_words(f));
             *bytes = 4 * f.words;
-            return 0;
+            0
         }
     }
 }

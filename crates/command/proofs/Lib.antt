@@ -1,0 +1,2 @@
+pub mod OnState
+pub mod OnBlock

@@ -1,154 +1,109 @@
-// The command call on a State: the facts from its parts, the decision, and the state after it.
+// The command call on what keeps a state: the facts, the decision, and what it changes. On a State it is `command`.
 #![tactic(auto)]
 
-ghost use Rattle.std.specs.Prelude.{◌≡◌, true, cond, List, ℕ, ◌+◌, ◌%◌, ◌≤◌, ◌<◌, length};
+ghost use Rattle.std.specs.Prelude.{◌≡◌, true, cond, List, ℕ, length};
 ghost use Rattle.rules.specs.Regions.{image_length};
-ghost use Rattle.rules.specs.States.{pool_at, good_state};
-ghost use Rattle.rules.specs.Commands.{returned, set_context, changed, accepted_more, command_call};
-ghost use Rattle.decide.specs.Decisions.{by_task, decision, state_after};
+ghost use Rattle.rules.specs.Commands.{returned, command_call};
+ghost use Rattle.decide.specs.Decisions.{by_task, answer_of, image_after, reply_after};
+ghost use Rattle.command.specs.OnStore.{decision_in, after};
 
-use decide::{
-    Decision, Told, answer_of, cancel, dump, is_counted, load, pool_statistics, write_out,
-};
-use opening::opened_by;
+use decide::{Decision, Told, answer_of, cancel, dump, load, pool_statistics, write_out};
+use opening::lent_verdict;
 use packet::transaction_of;
-use places::{first_idle, first_with, set_context};
-use rules::{Address, Context, Header, Range, Refusal, Returned, State, Task};
-use state::{find, good_words, index};
-use symbols::Known;
-use tasks::Sought;
+use rules::{Context, Header, Refusal, Returned, State, Task, Written};
+use state::Store;
+use symbols::Symbols;
+use tasks::asked;
 
-// The range of pool i; there is none past the second.
-fn pool_at(pools: [Range; 2], i: u16) -> Range
-    ensures { result ≡ pool_at pools i }
+// The decision on a task, by the facts that this task asks for.
+fn by_task<S: Store>(s: &S, t: u16, k: Task, image: &[u32]) -> Result<Decision, Refusal>
+    ensures { S.is_good s.now ≡ true → result ≡ by_task (S.state s.now) image.now t k }
 {
-    let k = i as usize;
-    if k < 2 {
-        pools[k]
-    } else {
-        Range {
-            start: Address(0),
-            words: 0,
-        }
-    }
-}
-
-// The decision on a task in a good state, by the facts that this task asks for.
-fn by_task(s: State, t: u16, k: Task, image: &[u32]) -> Decision
-    ensures { good_state s ≡ true → result ≡ by_task s image.now t k }
-{
-    let ps = s.places;
     match k {
-        Task::Nothing => Decision::Refuse(Refusal::UnknownCode),
-        Task::DumpRange(a) => dump(t, a, find(s, a), first_with(ps, t, 4), first_idle(ps)),
-        Task::CancelDump => cancel(first_with(ps, t, 4)),
+        Task::Nothing => Err(Refusal::UnknownCode),
+        Task::DumpRange(a) => dump(t, a, s.find(a), s.busy_place(t), s.idle_place()),
+        Task::CancelDump => cancel(s.busy_place(t)),
         Task::LoadRange(a) => {
-            let found = find(s, a);
-            load(a, found, index(s, a, found))
+            let found = s.find(a);
+            load(a, found, s.index(a, found))
         }
         Task::CountPool(i) => {
-            let pools = s.pools;
-            let pool = pool_at(pools, i);
+            let pool = s.pool(i);
             let header = Header {
-                count: s.replies,
-                unit: s.unit,
+                count: s.replies(),
+                unit: s.unit(),
                 transaction: t,
             };
-            let found = find(s, pool);
-            pool_statistics(header, i, pool, found, index(s, pool, found), image)
+            let found = s.find(pool);
+            pool_statistics(header, i, pool, found, s.index(pool, found), image)
         }
-        Task::TellValue(v) => {
+        Task::TellValue(value) => {
             let header = Header {
-                count: s.values,
-                unit: s.unit,
+                count: s.values(),
+                unit: s.unit(),
                 transaction: t,
             };
-            Decision::Tell(Told { header, value: v })
+            Ok(Decision::Tell(Told { header, value }))
         }
     }
 }
 
-// The decision on a packet: what the call would do. `good` is what the good state's test answers.
-fn decide(
-    s: State,
-    good: usize,
+// The decision on a packet: what the call would do. `words` is what the good test answers.
+fn decide<S: Store>(
+    s: &S,
+    words: usize,
     packet: &[u8],
-    symbols: &[u8],
+    symbols: &Symbols,
     image: &[u32],
     reply: usize,
-) -> Decision
-    ensures { (bytes : List ℕ) → good ≡ cond (good_state s) (image_length s.regions s.count) 0 → length bytes ≡ reply → result ≡ decision s (record { packet = packet.entry.now; symbols = symbols.now; image = image.now; reply = bytes }) }
+) -> Result<Decision, Refusal>
+    ensures { (bytes : List ℕ) → words ≡ cond (S.is_good s.now) (image_length (S.state s.now).regions (S.state s.now).count) 0 → length bytes ≡ reply → result ≡ decision_in (S.is_good s.now) (S.state s.now) (record { packet = packet.now; symbols = symbols.now.bytes.now; image = image.now; reply = bytes }) }
 {
-    let sought = opened_by(
-        good,
-        image.len(),
-        reply,
-        packet,
-        symbols,
-        Known::Untested,
-        s.unit,
-    );
-    match sought {
-        Sought::Denied(r) => Decision::Refuse(r),
-        Sought::Asked(k) => by_task(s, transaction_of(packet), k, image),
-    }
+    lent_verdict(words, image.len(), 32, reply)?;
+    let task = asked(packet, s.unit(), symbols)?;
+    by_task(s, transaction_of(packet), task, image)
 }
 
-// One more of a count that runs modulo n.
-fn raised(count: u16, n: u32) -> u16
-    requires { (0 < n) × (n ≤ 65536) }
-    ensures { result ≡ (count + 1) % n }
+// What a decision changes: the places and counts of an accepted command, the refused count of a refused one.
+fn apply<S: Store>(s: &mut S, d: Result<Decision, Refusal>)
+    ensures { s.new ≡ after S.changes s.old d }
 {
-    ((count as u32 + 1) % n) as u16
-}
-
-// One more command accepted, with place i changed.
-fn with_context(s: State, i: usize, c: Context) -> State
-    ensures { result ≡ changed s (set_context s.places i c) s.replies s.values (accepted_more s) s.refused }
-{
-    let places = s.places;
-    let after = set_context(places, i, c);
-    let mut state = s;
-    state.places = after;
-    state.accepted = raised(s.accepted, 65536);
-    state
-}
-
-// The state after a decision.
-fn applied(s: State, d: Decision) -> State
-    ensures { result ≡ state_after s d }
-{
-    let mut state = s;
     match d {
-        Decision::Refuse(r) => {
-            if is_counted(r) {
-                state.refused = raised(s.refused, 65536);
+        Err(r) => {
+            if r.is_counted() {
+                s.count_refused();
             }
-            state
+            return;
         }
-        Decision::Dump(x) => {
-            let dump = x.dump;
-            with_context(s, x.place, Context::Busy(dump))
-        }
-        Decision::Cancel(f) => with_context(s, f.place, Context::Idle),
-        Decision::Load(_) => {
-            state.accepted = raised(s.accepted, 65536);
-            state
-        }
-        Decision::Reply(_) => {
-            state.replies = raised(s.replies, 16384);
-            state.accepted = raised(s.accepted, 65536);
-            state
-        }
-        Decision::Tell(_) => {
-            state.values = raised(s.values, 16384);
-            state.accepted = raised(s.accepted, 65536);
-            state
-        }
+        Ok(Decision::Dump(x)) => s.set_place(x.place, Context::Busy(x.dump)),
+        Ok(Decision::Cancel(f)) => s.set_place(f.place, Context::Idle),
+        Ok(Decision::Load(_)) => {}
+        Ok(Decision::Reply(_)) => s.count_reply(),
+        Ok(Decision::Tell(_)) => s.count_value(),
     }
+    s.count_accepted();
 }
 
-// The command call.
+// The command call on a store that was tested.
+pub fn call<S: Store>(
+    s: &mut S,
+    words: usize,
+    packet: &[u8],
+    symbols: &Symbols,
+    image: &mut [u32],
+    reply: &mut [u8],
+) -> Result<Written, Refusal>
+    requires { words ≡ cond (S.is_good s.old) (image_length (S.state s.old).regions (S.state s.old).count) 0 }
+    ensures { let d = decision_in (S.is_good s.old) (S.state s.old) (record { packet = packet.entry.now; symbols = symbols.now.bytes.now; image = image.old; reply = reply.old }) in
+        (result ≡ answer_of d) × (s.new ≡ after S.changes s.old d) × (image.new ≡ image_after d packet.entry.now image.old) × (reply.new ≡ reply_after d reply.old) }
+{
+    let d = decide(s, words, packet, symbols, image, reply.len());
+    write_out(d, packet, image, reply);
+    apply(s, d);
+    answer_of(d)
+}
+
+// The command call on a State.
 pub fn command(
     s: State,
     packet: &[u8],
@@ -160,9 +115,15 @@ pub fn command(
         × (image.new ≡ (command_call s (record { packet = packet.entry.now; symbols = symbols.now; image = image.old; reply = reply.old })).image)
         × (reply.new ≡ (command_call s (record { packet = packet.entry.now; symbols = symbols.now; image = image.old; reply = reply.old })).buffer) }
 {
-    let d = decide(s, good_words(s), packet, symbols, image, reply.len());
-    write_out(d, packet, image, reply);
-    let answer = answer_of(d);
-    let state = applied(s, d);
+    let mut state = s;
+    let words = state.good_words();
+    let answer = call(
+        &mut state,
+        words,
+        packet,
+        &Symbols::untested(symbols),
+        image,
+        reply,
+    );
     Returned { answer, state }
 }

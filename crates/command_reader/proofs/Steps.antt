@@ -1,5 +1,6 @@
 -- The command reader reads as a box of the packet's own unit does, and then tests number 9; its words go with its answer.
 -- Assumes nothing.
+use Rattle.std.specs.Prelude.{Option, Some, None, Result, Ok, Err}
 use mathlib.Core.Path.{◌≡◌, refl, sym, ap, ◌∙◌}
 use mathlib.Core.Bool.{Bool, true, false, ◌&&◌}
 use mathlib.Core.List.{List, [], ◌∷◌, ◌++◌}
@@ -14,26 +15,21 @@ use Rattle.rules.specs.Packets.{apid_of, command_apid, well_formed, decode, data
 use Rattle.rules.specs.Ground.{no_words, words_beside, reader_rows, fields_read, conclude_read, read_command}
 use Rattle.rules.specs.declared.Command.{Command}
 use Rattle.rules.specs.declared.Command.TheVariants.{Dump, Cancel, Load, PoolStatistics, SymbolValue, DumpSymbol}
-use Rattle.rules.specs.declared.Decoded.{Decoded}
-use Rattle.rules.specs.declared.Decoded.TheVariants.{Unknown, Known}
-use Rattle.rules.specs.declared.Reading.{Reading}
-use Rattle.rules.specs.declared.Reading.TheVariants.{Read}
 use Rattle.rules.specs.declared.Telecommand.{Telecommand}
-use Rattle.rules.specs.declared.Verdict.{Verdict}
-use Rattle.rules.specs.declared.Verdict.TheVariants.{Accepted, Rejected}
 use Rattle.packet.specs.Frame.{headed_of}
 use Rattle.command_reader.specs.Read.{read_as, read_by}
 use Rattle.rules.specs.declared.SymbolRequest.{SymbolRequest}
 use Rattle.command_reader.specs.Beside.{words_with}
+use Rattle.rules.specs.declared.Refusal.{Refusal}
 
 -- WHAT THE TABLE OF ITS ROWS GIVES
 
 module _ (p : List ℕ) where
   -- for a packet that passed 4 and 5
-  decoded_same : well_formed p ≡ true → eqb (apid_of p) command_apid ≡ true → (d : Decoded) → decode p ≡ d → read_as p d ≡ (read_command p).reading
+  decoded_same : well_formed p ≡ true → eqb (apid_of p) command_apid ≡ true → (d : Option Command) → decode p ≡ d → read_as p d ≡ (read_command p).reading
   unfolding read_command reader_rows lowest
-  decoded_same w a Unknown e = rw (w, a, e)
-  decoded_same w a (Known k) e =
+  decoded_same w a None e = rw (w, a, e)
+  decoded_same w a (Some k) e =
       rw (w, a, e)
       (either (eqb (length p) (packet_length k))
       (λ l. rw l (either (field_rules k && zero_rules p k) (λ f. rw (f, e)) (λ f. rw f)))
@@ -47,7 +43,7 @@ module _ (p : List ℕ) where
   unfolding read_command reader_rows lowest headed_of
   other_apid w a = rw (w, a)
 
-  headed_right : well_formed p ≡ true → eqb (apid_of p) command_apid ≡ true → headed_of p ≡ Accepted
+  headed_right : well_formed p ≡ true → eqb (apid_of p) command_apid ≡ true → headed_of p ≡ (Ok tt)
   unfolding headed_of
   headed_right w a = rw (w, a)
 
@@ -76,20 +72,20 @@ beside_whole p (PoolStatistics i) = refl
 beside_whole p (SymbolValue n) = refl
 beside_whole p (DumpSymbol q) = refl
 
-pub with_fields : (p : List ℕ) (r : Reading) (f : Telecommand) (m : List ℕ) → r ≡ Read f → m ≡ splice no_words 0 (words_beside p f.command) → m ≡ words_with p r
+pub with_fields : (p : List ℕ) (r : Result Telecommand Refusal) (f : Telecommand) (m : List ℕ) → r ≡ Ok f → m ≡ splice no_words 0 (words_beside p f.command) → m ≡ words_with p r
 with_fields p r f m e g = g ∙ beside_whole p f.command ∙ ap (words_with p) (sym e)
 
 -- the words beside an answer
-words_of : (p : List ℕ) (v : Verdict) → lowest (reader_rows p) ≡ v → words_with p (conclude_read p v).reading ≡ (conclude_read p v).words
-words_of p (Rejected r) e = refl
-words_of p Accepted e = decoded (decode p)
+words_of : (p : List ℕ) (v : Result (Unit {0}) Refusal) → lowest (reader_rows p) ≡ v → words_with p (conclude_read p v).reading ≡ (conclude_read p v).words
+words_of p (Err r) e = refl
+words_of p (Ok tt) e = decoded (decode p)
   where
-    decoded : (d : Decoded) → words_with p (fields_read p d).reading ≡ (fields_read p d).words
-    decoded Unknown = refl
-    decoded (Known k) = refl
+    decoded : (d : Option Command) → words_with p (fields_read p d).reading ≡ (fields_read p d).words
+    decoded None = refl
+    decoded (Some k) = refl
 
 -- an answer with its words is the result
-pub read_result : (p : List ℕ) (r : Reading) (ws : List ℕ) → r ≡ (read_command p).reading → ws ≡ words_with p r
+pub read_result : (p : List ℕ) (r : Result Telecommand Refusal) (ws : List ℕ) → r ≡ (read_command p).reading → ws ≡ words_with p r
     → record { reading = r; words = ws } ≡ read_command p
 unfolding read_command
 read_result p r ws e f =

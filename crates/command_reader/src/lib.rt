@@ -13,25 +13,25 @@ use packet::{
     code, end_is_zero, field_rules, function_code, headed, header_at, lengths, pad_is_zero,
     request_in, symbol_request_in,
 };
-use rules::{Command, CommandRead, Reading, Refusal, Telecommand, Verdict};
+use rules::{Command, CommandRead, Refusal, Telecommand};
 use wire::{byte_at, get16};
 
 // Numbers 7 and 9 of a command whose packet must have so many bytes, or its fields. `zeros` says whether the bits that hold no field are zero.
-fn given(p: &[u8], bytes: usize, zeros: bool, command: Command) -> Reading
+fn given(p: &[u8], bytes: usize, zeros: bool, command: Command) -> Result<Telecommand, Refusal>
     ensures { result ≡ given_as p.now bytes zeros command }
 {
     if p.len() != bytes {
-        return Reading::Unread(Refusal::PacketLength);
+        return Err(Refusal::PacketLength);
     }
     if !(field_rules(command) & zeros) {
-        return Reading::Unread(Refusal::BadField);
+        return Err(Refusal::BadField);
     }
     let header = header_at(p, 8);
-    Reading::Read(Telecommand { header, command })
+    Ok(Telecommand { header, command })
 }
 
 // The function code picks the command and its packet's length.
-fn by_code(p: &[u8]) -> Reading
+fn by_code(p: &[u8]) -> Result<Telecommand, Refusal>
     ensures { result ≡ read_as p.now (decode p.now) }
 {
     match function_code(p) {
@@ -56,30 +56,23 @@ fn by_code(p: &[u8]) -> Reading
             pad_is_zero(p) & end_is_zero(p),
             Command::DumpSymbol(symbol_request_in(p)),
         ),
-        _ => Reading::Unread(Refusal::UnknownCode),
+        _ => Err(Refusal::UnknownCode),
     }
 }
 
 // Numbers 4 to 7 and 9, or the fields.
-pub fn reading_of(p: &[u8]) -> Reading
+pub fn reading_of(p: &[u8]) -> Result<Telecommand, Refusal>
     ensures { result ≡ (read_command p.now).reading }
 {
-    let head = headed(p);
-    match head {
-        Verdict::Rejected(r) => Reading::Unread(r),
-        Verdict::Accepted => by_code(p),
-    }
+    headed(p)?;
+    by_code(p)
 }
 
 fn put_zeros(words: &mut [u32])
     requires { 12 ≤ length words.old }
     ensures { words.new ≡ splice words.old 0 no_words }
 {
-    let mut i = 0;
-    while i < 12 {
-        words[i] = 0;
-        i += 1;
-    }
+    words[..12].fill(0);
 }
 
 // The twelve words beside a command, at the start of a slice of words. Where it has fewer, nothing is written.
@@ -91,28 +84,21 @@ pub fn put_beside(words: &mut [u32], p: &[u8], k: Command)
         return;
     }
     match k {
-        Command::Dump(_) => put_zeros(words),
-        Command::Cancel => put_zeros(words),
+        Command::Dump(_) | Command::Cancel | Command::PoolStatistics(_) => put_zeros(words),
         Command::Load(_) => {
             put_zeros(words);
             load_words(words, p, 11);
         }
-        Command::PoolStatistics(_) => put_zeros(words),
-        Command::SymbolValue(_) => name_words(words, p),
-        Command::DumpSymbol(_) => name_words(words, p),
+        Command::SymbolValue(_) | Command::DumpSymbol(_) => name_words(words, p),
     }
 }
 
-fn words_with(p: &[u8], reading: Reading) -> [u32; 12]
+fn words_with(p: &[u8], reading: Result<Telecommand, Refusal>) -> [u32; 12]
     ensures { result ≡ words_with p.now reading }
 {
     let mut words = [0u32; 12];
-    match reading {
-        Reading::Unread(_) => {}
-        Reading::Read(f) => {
-            let k = f.command;
-            put_beside(&mut words, p, k);
-        }
+    if let Ok(f) = reading {
+        put_beside(&mut words, p, f.command);
     }
     words
 }

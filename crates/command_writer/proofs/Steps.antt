@@ -1,5 +1,6 @@
 -- The steps of the command writer give what the table of its rows gives.
 -- Assumes nothing.
+use Rattle.std.specs.Prelude.{Ok, Err}
 use mathlib.Core.Path.{◌≡◌, refl, sym, ap, ap₂, ◌∙◌}
 use mathlib.Core.Bool.{Bool, true, false, ◌&&◌, not}
 use mathlib.Core.List.{List, [], ◌∷◌, ◌++◌}
@@ -21,7 +22,6 @@ use Rattle.rules.specs.Packets.{code_of, packet_length, field_rules, used_words,
 use Rattle.rules.proofs.Fits.{used_length}
 use Rattle.rules.specs.Results.{lowest}
 use Rattle.rules.specs.Ground.{header_rules, writer_rows, write_command}
-use Rattle.rules.specs.declared.Answer.TheVariants.{Refused, Done}
 use Rattle.rules.specs.declared.Command.{Command}
 use Rattle.rules.specs.declared.Command.TheVariants.{Dump, Cancel, Load, PoolStatistics, SymbolValue, DumpSymbol}
 use Rattle.rules.specs.declared.Header.{Header}
@@ -151,7 +151,7 @@ module _ (h : Header) (k : Command) (n : ℕ) (en : n ≡ packet_length k) where
       (f.count, omega arith, omega arith, omega arith)
 
   module _ (ws buffer : List ℕ) where
-    pub too_short : length buffer < n → (Refused BufferLength ≡ (write_command h k ws buffer).answer) × (buffer ≡ (write_command h k ws buffer).buffer)
+    pub too_short : length buffer < n → (Err BufferLength ≡ (write_command h k ws buffer).answer) × (buffer ≡ (write_command h k ws buffer).buffer)
     unfolding write_command writer_rows lowest
     too_short s = let e = lt-ltb (length buffer) (packet_length k) (omega arith) in (rw e, rw e)
 
@@ -160,7 +160,7 @@ module _ (h : Header) (k : Command) (n : ℕ) (en : n ≡ packet_length k) where
       long_enough = le-ltb (length buffer) (packet_length k) (omega arith)
 
       pub bad_field : (header_rules h && field_rules k) ≡ false
-          → (Refused BadField ≡ (write_command h k ws buffer).answer) × (buffer ≡ (write_command h k ws buffer).buffer)
+          → (Err BadField ≡ (write_command h k ws buffer).answer) × (buffer ≡ (write_command h k ws buffer).buffer)
       unfolding write_command writer_rows lowest
       bad_field r = (rw (long_enough, r), rw (long_enough, r))
 
@@ -185,6 +185,6 @@ module _ (h : Header) (k : Command) (n : ℕ) (en : n ≡ packet_length k) where
         pub packet_written : (header_rules h && field_rules k) ≡ true
             → (b₁ b₂ : List ℕ) → b₁ ≡ splice buffer 8 tail → xor_all (be 4 rest) ≡ xor_all tail
             → b₂ ≡ splice b₁ 0 (set start 7 (bit_xor (bit_xor (xor_all start) (xor_all (be 4 rest))) 255))
-            → (Done (record { length = n }) ≡ (write_command h k ws buffer).answer) × (b₂ ≡ (write_command h k ws buffer).buffer)
+            → (Ok (record { length = n }) ≡ (write_command h k ws buffer).answer) × (b₂ ≡ (write_command h k ws buffer).buffer)
         unfolding write_command writer_rows lowest
         packet_written r b₁ b₂ e₁ er e₂ = (rw (long_enough, r, en), rw (long_enough, r) (e₂ ∙ packet_stands b₁ e₁ er))

@@ -12,8 +12,8 @@ ghost use Rattle.command_writer.specs.Start.{start_bytes};
 ghost use Rattle.rules.specs.declared.Command.TheVariants.{DumpSymbol};
 
 use packet::{code_of, field_rules, packet_length};
-use rules::{Answer, Command, Header, Refusal, Request, SymbolRequest, Written};
-use wire::{put_words, wide32, xor_word};
+use rules::{Command, Header, Refusal, Request, SymbolRequest, Written};
+use wire::{put_words, xor_word};
 
 fn header_rules(h: Header) -> bool
     ensures { result ≡ header_rules h }
@@ -28,11 +28,10 @@ fn put_start(b: &mut [u8], count: u16, code: u8, n: usize, rest: u32)
     ensures { b.new ≡ splice b.old 0 (set (start_bytes count code n) 7 (bit_xor (bit_xor (xor_all (start_bytes count code n)) (xor_all (be 4 rest))) 255)) }
 {
     // type 1, second-header flag 1, APID 1604; sequence flags 3
-    let first = 7748 * 65536 + (49152 + count as u32);
-    let second = (n - 7) as u32 * 65536 + wide32(code) * 256;
-    let check = wide32(xor_word(first ^ second ^ rest) ^ 255);
-    let start = [first, second + check];
-    put_words(b, 0, &start);
+    let first = 7748 * 65536 + (49152 + u32::from(count));
+    let second = (n - 7) as u32 * 65536 + u32::from(code) * 256;
+    let check = u32::from(xor_word(first ^ second ^ rest) ^ 255);
+    put_words(b, 0, &[first, second + check]);
 }
 
 // Unit and transaction alone.
@@ -49,9 +48,8 @@ fn put_pool(b: &mut [u8], id: u32, pool: u16) -> u32
     requires { (id < 65536) × (12 ≤ length b.old) }
     ensures { (b.new ≡ splice b.old 8 (be 2 id ++ be 2 pool)) × (xor_all (be 4 result) ≡ xor_all (be 2 id ++ be 2 pool)) }
 {
-    let third = id * 65536 + pool as u32;
-    let run = [third];
-    put_words(b, 8, &run);
+    let third = id * 65536 + u32::from(pool);
+    put_words(b, 8, &[third]);
     third
 }
 
@@ -59,10 +57,9 @@ fn put_request(b: &mut [u8], id: u32, q: Request) -> u32
     requires { (id < 65536) × (16 ≤ length b.old) }
     ensures { (b.new ≡ splice b.old 8 (be 2 id ++ request_bytes q)) × (xor_all (be 4 result) ≡ xor_all (be 2 id ++ request_bytes q)) }
 {
-    let third = id * 65536 + q.size as u32;
+    let third = id * 65536 + u32::from(q.size);
     let address = q.address.0;
-    let run = [third, address];
-    put_words(b, 8, &run);
+    put_words(b, 8, &[third, address]);
     third ^ address
 }
 
@@ -89,13 +86,10 @@ fn put_data(b: &mut [u8], size: u16, words: &[u32]) -> u32
         return 0;
     }
     let mut all: u32 = 0;
-    let mut i = 0;
-    while i < 11 {
+    for i in 0..11 {
         let w = used_word(words, size, i);
-        let run = [w];
-        put_words(b, 16 + 4 * i, &run);
-        all = all ^ w;
-        i += 1;
+        put_words(b, 16 + 4 * i, &[w]);
+        all ^= w;
     }
     all
 }
@@ -139,17 +133,13 @@ fn put_name(b: &mut [u8], id: u32, n: u8, words: &[u32]) -> u32
     if b.len() < 60 {
         return 0;
     }
-    let third = id * 65536 + wide32(n) * 256;
-    let first = [third];
-    put_words(b, 8, &first);
+    let third = id * 65536 + u32::from(n) * 256;
+    put_words(b, 8, &[third]);
     let mut all: u32 = third;
-    let mut i = 0;
-    while i < 12 {
+    for i in 0..12 {
         let w = name_word(words, n, i);
-        let run = [w];
-        put_words(b, 12 + 4 * i, &run);
-        all = all ^ w;
-        i += 1;
+        put_words(b, 12 + 4 * i, &[w]);
+        all ^= w;
     }
     all
 }
@@ -160,9 +150,8 @@ fn put_symbol_request(b: &mut [u8], id: u32, q: SymbolRequest, words: &[u32]) ->
 {
     let name = put_name(b, id, q.name, words);
     let offset = q.offset;
-    let last = q.size as u32 * 65536;
-    let run = [offset, last];
-    put_words(b, 60, &run);
+    let last = u32::from(q.size) * 65536;
+    put_words(b, 60, &[offset, last]);
     name ^ offset ^ last
 }
 
@@ -185,24 +174,34 @@ fn put_rest(b: &mut [u8], id: u32, k: Command, words: &[u32]) -> u32
 }
 
 // Writes a command's packet. Of `words`, which are a load's or hold a name, what is beyond its size is not written, and one that is not there is 0.
-pub fn write_packet(h: Header, k: Command, words: &[u32], buffer: &mut [u8]) -> Answer
+pub fn write_packet(
+    h: Header,
+    k: Command,
+    words: &[u32],
+    buffer: &mut [u8],
+) -> Result<Written, Refusal>
     ensures { (result ≡ (write_command h k words.now buffer.old).answer) × (buffer.new ≡ (write_command h k words.now buffer.old).buffer) }
 {
     let n = packet_length(k);
     if buffer.len() < n {
-        return Answer::Refused(Refusal::BufferLength);
+        return Err(Refusal::BufferLength);
     }
     if !(header_rules(h) & field_rules(k)) {
-        return Answer::Refused(Refusal::BadField);
+        return Err(Refusal::BadField);
     }
-    let id = 4096 * wide32(h.unit) + h.transaction as u32;
+    let id = 4096 * u32::from(h.unit) + u32::from(h.transaction);
     let rest = put_rest(buffer, id, k, words);
     put_start(buffer, h.count, code_of(k), n, rest);
-    Answer::Done(Written { length: n })
+    Ok(Written { length: n })
 }
 
 // The same of twelve words.
-pub fn write_command(h: Header, k: Command, words: &[u32; 12], buffer: &mut [u8]) -> Answer
+pub fn write_command(
+    h: Header,
+    k: Command,
+    words: &[u32; 12],
+    buffer: &mut [u8],
+) -> Result<Written, Refusal>
     ensures { (result ≡ (write_command h k words.now buffer.old).answer) × (buffer.new ≡ (write_command h k words.now buffer.old).buffer) }
 {
     write_packet(h, k, words, buffer)

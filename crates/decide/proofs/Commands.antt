@@ -1,5 +1,6 @@
 -- The command call is the decision, carried out.
 -- Assumes nothing.
+use Rattle.std.specs.Prelude.{Option, Some, None, Result, Ok, Err}
 use mathlib.Core.Path.{◌≡◌, refl, sym, ◌∙◌}
 use mathlib.Core.Bool.{true, false, ◌&&◌, not, cond}
 use mathlib.Core.List.{List}
@@ -20,11 +21,8 @@ use Rattle.symbols.specs.Table.{value_of}
 use Rattle.rules.specs.Commands.{CommandArgs, Outcome, range_by, task_of, task, no_table, layout_rules, unknown_name, wrong_range, is_idle, any_with, any_idle, first_with, first_idle, pool_words, returned, refused_command, carry_out, conclude, command_call}
 use Rattle.rules.proofs.Rules.{pool_out}
 use Rattle.rules.proofs.Table.{one_any, starts_whole, image_fits}
-use Rattle.rules.specs.declared.Answer.{Answer}
 use Rattle.rules.specs.declared.Command.{Command}
 use Rattle.rules.specs.declared.Command.TheVariants.{Dump, Cancel, Load, PoolStatistics, SymbolValue, DumpSymbol}
-use Rattle.rules.specs.declared.Decoded.{Decoded}
-use Rattle.rules.specs.declared.Decoded.TheVariants.{Unknown, Known}
 use Rattle.rules.specs.declared.Place.{Place}
 use Rattle.rules.specs.declared.Range.{Range}
 use Rattle.rules.specs.declared.Refusal.{Refusal}
@@ -32,23 +30,19 @@ use Rattle.rules.specs.declared.Refusal.TheVariants.{PoolDamaged}
 use Rattle.rules.specs.declared.State.{State}
 use Rattle.rules.specs.declared.Task.{Task}
 use Rattle.rules.specs.declared.Task.TheVariants.{Nothing, DumpRange, CancelDump, LoadRange, CountPool, TellValue}
-use Rattle.rules.specs.declared.Verdict.{Verdict}
-use Rattle.rules.specs.declared.Verdict.TheVariants.{Accepted, Rejected}
 use Rattle.packet.specs.Frame.{frame_rows, headed_of, checked_by}
 use Rattle.tasks.specs.Asked.{asked_of, if_passed, picked_by, sought_in}
-use Rattle.tasks.specs.declared.Sought.{Sought}
-use Rattle.tasks.specs.declared.Sought.TheVariants.{Denied, Asked}
 use Rattle.pool.specs.Answers.{figures_of, walked_of}
 use Rattle.pool.proofs.ReplyBytes.{reply_bytes_lem, reply_fits}
 use Rattle.regions.proofs.Answers.{found_whole, index_whole}
 use Rattle.opening.specs.Opening.{lent_by, opened_as, opened_by, good_words}
 use Rattle.decide.specs.Decisions.{decide_walked, by_task, by_sought, decision, answer_of, image_after, reply_after, state_after, carried_out, Decided}
 use Rattle.decide.specs.declared.Decision.{Decision}
-use Rattle.decide.specs.declared.Decision.TheVariants.{Refuse}
 use Rattle.decide.proofs.Right.{right_there}
 use Rattle.opening.proofs.Rows.{or_else, after_code, frame_lowest}
 use Rattle.decide.proofs.Rows.{asked_rows, task_rows, command_lowest}
 use Rattle.opening.proofs.Lent.{LentIs, lent_lowest, lent_out, lent_good}
+use Rattle.rules.specs.declared.Written.{Written}
 
 -- THE PLACES
 
@@ -74,8 +68,8 @@ Sized (LoadRange a) = (1 ≤ a.words) × (a.words ≤ 11)
 Sized (CountPool i) = i ≤ 1
 Sized (TellValue v) = Unit {0}
 
-task_sized : (symbols p : List ℕ) (k : Command) → layout_rules p k ≡ true → wrong_range symbols (name_in p) (Known k) ≡ false
-    → Sized (task_of symbols (name_in p) (Known k))
+task_sized : (symbols p : List ℕ) (k : Command) → layout_rules p k ≡ true → wrong_range symbols (name_in p) (Some k) ≡ false
+    → Sized (task_of symbols (name_in p) (Some k))
 unfolding field_rules
 task_sized symbols p (Dump q) h w = leb-true _ _ (and_right (aligned (requested q)) (leb 1 q.size) h)
 task_sized symbols p Cancel h w = tt
@@ -93,13 +87,13 @@ task_sized symbols p (DumpSymbol q) h w =
 -- 10 TO 15
 
 -- what is concluded of a task
-abbrev conclude_as : State → CommandArgs → Task → Verdict → Outcome
-conclude_as s c k (Rejected r) = refused_command s c r
-conclude_as s c k Accepted = carry_out s c k
+abbrev conclude_as : State → CommandArgs → Task → Result (Unit {0}) Refusal → Outcome
+conclude_as s c k (Err r) = refused_command s c r
+conclude_as s c k (Ok tt) = carry_out s c k
 
-conclude_as_lem : (s : State) (c : CommandArgs) (v : Verdict) → conclude s c v ≡ conclude_as s c (task c) v
-conclude_as_lem s c (Rejected r) = refl
-conclude_as_lem s c Accepted = refl
+conclude_as_lem : (s : State) (c : CommandArgs) (v : Result (Unit {0}) Refusal) → conclude s c v ≡ conclude_as s c (task c) v
+conclude_as_lem s c (Err r) = refl
+conclude_as_lem s c (Ok tt) = refl
 
 module _ (s : State) (c : CommandArgs) (lent : LentIs s c.image reply_length c.reply) where
   -- the call, by the rows that are left for a task
@@ -140,7 +134,7 @@ module _ (s : State) (c : CommandArgs) (lent : LentIs s c.image reply_length c.r
 
   -- the reply with its numbers cut to their fields is the reply, and the figures are those of the blocks
   pool_walked : (i : ℕ) (w : Walk) → blocks_of (pool_words s i c.image) ≡ w
-      → conclude_as s c (CountPool i) (cond (is_damaged w) (Rejected PoolDamaged) Accepted)
+      → conclude_as s c (CountPool i) (cond (is_damaged w) (Err PoolDamaged) (Ok tt))
       ≡ carried_out s c (decide_walked (record { count = s.replies; unit = s.unit; transaction = command_transaction c.packet }) i (walked_of w))
   pool_walked i damaged e = refl
   pool_walked i (whole bs) e =
@@ -182,48 +176,48 @@ module _ (s : State) (c : CommandArgs) (lent : LentIs s c.image reply_length c.r
 
   -- 17, 9, 18 AND 9 AGAIN
 
-  abbrev task_by : Decoded → Task
+  abbrev task_by : Option Command → Task
   task_by d = task_of c.symbols (name_in c.packet) d
 
   -- the decision on what a packet asks for
-  abbrev by_sought_here : Sought → Decision
+  abbrev by_sought_here : Result Task Refusal → Result Decision Refusal
   by_sought_here a = by_sought s c.image (command_transaction c.packet) a
 
   -- the rows that are left for a packet that passed 4 to 8
-  abbrev left : Decoded → Verdict
+  abbrev left : Option Command → Result (Unit {0}) Refusal
   left d = or_else (lowest (asked_rows c d)) (lowest (task_rows s c (task_by d)))
 
-  by_command : (k : Command) → conclude_as s c (task_by (Known k)) (left (Known k)) ≡ carried_out s c (by_sought_here (asked_of c.symbols c.packet k))
+  by_command : (k : Command) → conclude_as s c (task_by (Some k)) (left (Some k)) ≡ carried_out s c (by_sought_here (asked_of c.symbols c.packet k))
   unfolding lowest asked_rows asked_of
   by_command k =
       let name : List ℕ = name_in c.packet in
-      either (no_table c.symbols (Known k)) (λ e. rw e)
+      either (no_table c.symbols (Some k)) (λ e. rw e)
       (λ e₁. rw e₁ (either (layout_rules c.packet k)
-      (λ e₂. rw e₂ (either (unknown_name c.symbols name (Known k)) (λ e. rw e)
-      (λ e₃. rw e₃ (either (wrong_range c.symbols name (Known k)) (λ e. rw e)
-      (λ e₄. rw e₄ (by_task_lem (task_by (Known k)) (task_sized c.symbols c.packet k e₂ e₄)))))))
+      (λ e₂. rw e₂ (either (unknown_name c.symbols name (Some k)) (λ e. rw e)
+      (λ e₃. rw e₃ (either (wrong_range c.symbols name (Some k)) (λ e. rw e)
+      (λ e₄. rw e₄ (by_task_lem (task_by (Some k)) (task_sized c.symbols c.packet k e₂ e₄)))))))
       (λ e. rw e)))
 
   -- 6, 7 AND 8: what the function code picks
 
-  by_checked : (k : Command) (v : Verdict)
-      → conclude_as s c (task_by (Known k)) (or_else v (left (Known k))) ≡ carried_out s c (by_sought_here (if_passed v (asked_of c.symbols c.packet k)))
-  by_checked k (Rejected r) = refl
-  by_checked k Accepted = by_command k
+  by_checked : (k : Command) (v : Result (Unit {0}) Refusal)
+      → conclude_as s c (task_by (Some k)) (or_else v (left (Some k))) ≡ carried_out s c (by_sought_here (if_passed v (asked_of c.symbols c.packet k)))
+  by_checked k (Err r) = refl
+  by_checked k (Ok tt) = by_command k
 
-  by_decoded : (d : Decoded)
+  by_decoded : (d : Option Command)
       → conclude_as s c (task_by d) (or_else (after_code c.packet s.unit d) (left d)) ≡ carried_out s c (by_sought_here (picked_by c.packet s.unit c.symbols d))
-  by_decoded Unknown = refl
-  by_decoded (Known k) = by_checked k (checked_by c.packet s.unit (packet_length k))
+  by_decoded None = refl
+  by_decoded (Some k) = by_checked k (checked_by c.packet s.unit (packet_length k))
 
   -- 4 AND 5
 
-  by_head : (v : Verdict)
+  by_head : (v : Result (Unit {0}) Refusal)
       → conclude s c (or_else (or_else v (after_code c.packet s.unit (decode c.packet))) (or_else (lowest (asked_rows c (decode c.packet))) (lowest (task_rows s c (task c)))))
       ≡ carried_out s c (by_sought_here (if_passed v (picked_by c.packet s.unit c.symbols (decode c.packet))))
   unfolding task
-  by_head (Rejected r) = refl
-  by_head Accepted =
+  by_head (Err r) = refl
+  by_head (Ok tt) =
       conclude_as_lem s c (or_else (after_code c.packet s.unit (decode c.packet)) (left (decode c.packet))) ∙ by_decoded (decode c.packet)
 
   by_frame : conclude s c (or_else (lowest (frame_rows c.packet s.unit)) (or_else (lowest (asked_rows c (decode c.packet))) (lowest (task_rows s c (task c)))))
@@ -233,13 +227,13 @@ module _ (s : State) (c : CommandArgs) (lent : LentIs s c.image reply_length c.r
 
 -- 1 TO 3, AND THE CALL
 
-by_lent : (s : State) (c : CommandArgs) (v : Verdict) → lowest (lent_rows s c.image reply_length c.reply) ≡ v
+by_lent : (s : State) (c : CommandArgs) (v : Result (Unit {0}) Refusal) → lowest (lent_rows s c.image reply_length c.reply) ≡ v
     → conclude s c
     (or_else v
     (or_else (lowest (frame_rows c.packet s.unit)) (or_else (lowest (asked_rows c (decode c.packet))) (lowest (task_rows s c (task c))))))
     ≡ carried_out s c (by_sought s c.image (command_transaction c.packet) (opened_as v c.packet c.symbols s.unit))
-by_lent s c (Rejected r) e = refl
-by_lent s c Accepted e = by_frame s c (lent_out s c.image reply_length c.reply e)
+by_lent s c (Err r) e = refl
+by_lent s c (Ok tt) e = by_frame s c (lent_out s c.image reply_length c.reply e)
 
 pub decided : Decided
 unfolding command_call decision
@@ -249,31 +243,31 @@ decided s c =
 
 -- A STORE THAT SUPPLIES THE FACTS, AND CARRIES THE DECISION OUT
 
-open_accepted : (v : Verdict) (p symbols : List ℕ) (unit : ℕ) (k : Task) → opened_as v p symbols unit ≡ Asked k → v ≡ Accepted
-open_accepted (Rejected r) p symbols unit k h = let z : ◌≡◌ {A = ℕ} 0 1 = cc in absurd (omega arith)
-open_accepted Accepted p symbols unit k h = refl
+open_accepted : (v : Result (Unit {0}) Refusal) (p symbols : List ℕ) (unit : ℕ) (k : Task) → opened_as v p symbols unit ≡ Ok k → v ≡ (Ok tt)
+open_accepted (Err r) p symbols unit k h = let z : ◌≡◌ {A = ℕ} 0 1 = cc in absurd (omega arith)
+open_accepted (Ok tt) p symbols unit k h = refl
 
 -- its steps give the decision
 module _ (s : State) (c : CommandArgs) {words reply : ℕ} (ew : words ≡ cond (good_state s) (image_length s.regions s.count) 0)
-    (er : length c.reply ≡ reply) {a : Sought} (ea : a ≡ opened_by words (length c.image) reply c.packet c.symbols s.unit) where
+    (er : length c.reply ≡ reply) {a : (Result Task Refusal)} (ea : a ≡ opened_by words (length c.image) reply c.packet c.symbols s.unit) where
   opened_as_lem : opened_by (good_words s) (length c.image) (length c.reply) c.packet c.symbols s.unit ≡ a
   unfolding good_words
   opened_as_lem = rw (er, ← ew) (sym ea)
 
-  pub step_shut : {r : Refusal} → a ≡ Denied r → Refuse r ≡ decision s c
+  pub step_shut : {r : Refusal} → a ≡ Err r → Err r ≡ decision s c
   unfolding decision
   step_shut h = rw (opened_as_lem, h)
 
-  pub step_open : {k : Task} {t : ℕ} {d : Decision} → a ≡ Asked k → t ≡ command_transaction c.packet → (good_state s ≡ true → d ≡ by_task s c.image t k) → d ≡ decision s c
+  pub step_open : {k : Task} {t : ℕ} {d : Result Decision Refusal} → a ≡ Ok k → t ≡ command_transaction c.packet → (good_state s ≡ true → d ≡ by_task s c.image t k) → d ≡ decision s c
   unfolding decision
   step_open {k} h et f =
-      let lent : Verdict = lent_by (good_words s) (length c.image) 32 (length c.reply) in
+      let lent : Result (Unit {0}) Refusal = lent_by (good_words s) (length c.image) 32 (length c.reply) in
       rw (opened_as_lem, h, ← et)
       (f (lent_good s (length c.image) 32 (length c.reply) (open_accepted lent c.packet c.symbols s.unit k (opened_as_lem ∙ h))))
 
 -- and their effect is the call's
-module _ (s : State) (c : CommandArgs) {d : Decision} (e : d ≡ decision s c) where
-  pub command_done : {answer : Answer} {state : State} {image reply : List ℕ} → answer ≡ answer_of d → state ≡ state_after s d
+module _ (s : State) (c : CommandArgs) {d : Result Decision Refusal} (e : d ≡ decision s c) where
+  pub command_done : {answer : (Result Written Refusal)} {state : State} {image reply : List ℕ} → answer ≡ answer_of d → state ≡ state_after s d
       → (image ≡ image_after d c.packet c.image) × (reply ≡ reply_after d c.reply)
       → (record { answer = answer; state = state } ≡ returned (command_call s c)) × (image ≡ (command_call s c).image) × (reply ≡ (command_call s c).buffer)
   command_done ea es (ei, er) = rw (decided s c, ← e, ea, es, ei, er) (refl, refl, refl)

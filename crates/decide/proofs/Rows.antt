@@ -1,20 +1,21 @@
 -- The rows of the command call's table, cut where the decisions cut them.
 -- Assumes nothing.
+use Rattle.std.specs.Prelude.{Option}
 use mathlib.Core.Path.{◌≡◌, refl}
 use mathlib.Core.List.{List, [], ◌∷◌, ◌++◌}
 use Rattle.rules.specs.Packets.{decode, command_transaction, name_in}
 use Rattle.rules.specs.Pools.{reply_length}
 use Rattle.rules.specs.Results.{Row, row, lowest, lent_rows}
 use Rattle.rules.specs.Commands.{CommandArgs, task, no_table, wrong_field, unknown_name, wrong_range, outside, past_end, lacks_right, number_taken, no_place, no_such_dump, pool_damaged, command_rows}
-use Rattle.rules.specs.declared.Decoded.{Decoded}
 use Rattle.rules.specs.declared.Refusal.TheVariants.{BadTable, BadField, UnknownSymbol, OutsideRegions, NoRight, TransactionBusy, PlacesBusy, NotBusy, PoolDamaged, RunsOut}
 use Rattle.rules.specs.declared.State.{State}
 use Rattle.rules.specs.declared.Task.{Task}
 use Rattle.packet.specs.Frame.{frame_rows}
 use Rattle.opening.proofs.Rows.{or_else, lowest_join}
+use Rattle.rules.specs.declared.Command.{Command}
 
 -- 17, 9, 18 and 9 again
-unfoldable pub asked_rows : CommandArgs → Decoded → List Row
+unfoldable pub asked_rows : CommandArgs → Option Command → List Row
 asked_rows c d =
     row BadTable (no_table c.symbols d)
     ∷ row BadField (wrong_field c.packet d)

@@ -2,14 +2,13 @@
 #![tactic(auto)]
 
 ghost use Rattle.std.specs.Prelude.{◌≡◌};
-ghost use Rattle.rules.specs.Results.{counted};
 ghost use Rattle.decide.specs.Decisions.{decide_dump, decide_cancel, decide_load, decide_pool, answer_of, image_after, reply_after, Decided};
 
 use bulk::{store_words, words_at};
 use places::Seat;
-use pool::{Figures, Walked, put_reply, walk_pool};
-use regions::Found;
-use rules::{ActiveDump, Answer, Header, Range, Refusal, WordIndex, Written};
+use pool::{Figures, put_reply, walk_pool};
+use regions::{Miss, Spot};
+use rules::{ActiveDump, Header, Range, Refusal, WordIndex, Written};
 use tasks::put_value;
 
 // WHAT CAN BE DECIDED
@@ -42,10 +41,9 @@ pub struct Told {
     pub value: u32,
 }
 
-// What a command call does.
+// What an accepted command does.
 #[derive(Clone, Copy)]
 pub enum Decision {
-    Refuse(Refusal),
     Dump(Seat),
     Cancel(Freed),
     Load(Stored),
@@ -56,170 +54,107 @@ pub enum Decision {
 // NUMBERS 10 TO 15, AND 19
 
 // A dump: `busy` is the lowest place busy with its number, `idle` the lowest idle one; 4 where there is none.
-pub fn dump(t: u16, range: Range, found: Found, busy: usize, idle: usize) -> Decision
+pub fn dump(
+    t: u16,
+    range: Range,
+    found: Result<Spot, Miss>,
+    busy: usize,
+    idle: usize,
+) -> Result<Decision, Refusal>
     ensures { result ≡ decide_dump t range found busy idle }
 {
-    match found {
-        Found::StartsOutside => Decision::Refuse(Refusal::OutsideRegions),
-        Found::EndsOutside => Decision::Refuse(Refusal::RunsOut),
-        Found::At(spot) => {
-            if !spot.dump {
-                return Decision::Refuse(Refusal::NoRight);
-            }
-            if busy < 4 {
-                return Decision::Refuse(Refusal::TransactionBusy);
-            }
-            if 4 <= idle {
-                return Decision::Refuse(Refusal::PlacesBusy);
-            }
-            let dump = ActiveDump {
-                transaction: t,
-                range,
-                sent: 0,
-            };
-            Decision::Dump(Seat { place: idle, dump })
-        }
+    let spot = found?;
+    if !spot.dump {
+        return Err(Refusal::NoRight);
     }
+    if busy < 4 {
+        return Err(Refusal::TransactionBusy);
+    }
+    if 4 <= idle {
+        return Err(Refusal::PlacesBusy);
+    }
+    let dump = ActiveDump {
+        transaction: t,
+        range,
+        sent: 0,
+    };
+    Ok(Decision::Dump(Seat { place: idle, dump }))
 }
 
 // A cancel: `busy` is the lowest place busy with its number, or 4.
-pub fn cancel(busy: usize) -> Decision
+pub fn cancel(busy: usize) -> Result<Decision, Refusal>
     ensures { result ≡ decide_cancel busy }
 {
     if 4 <= busy {
-        return Decision::Refuse(Refusal::NotBusy);
+        return Err(Refusal::NotBusy);
     }
-    Decision::Cancel(Freed { place: busy })
+    Ok(Decision::Cancel(Freed { place: busy }))
 }
 
 // A load: `at` is the index in the image of the first word of its range, where that was found.
-pub fn load(range: Range, found: Found, at: WordIndex) -> Decision
+pub fn load(range: Range, found: Result<Spot, Miss>, at: WordIndex) -> Result<Decision, Refusal>
     ensures { result ≡ decide_load range found at }
 {
-    match found {
-        Found::StartsOutside => Decision::Refuse(Refusal::OutsideRegions),
-        Found::EndsOutside => Decision::Refuse(Refusal::RunsOut),
-        Found::At(spot) => {
-            if !spot.load {
-                return Decision::Refuse(Refusal::NoRight);
-            }
-            Decision::Load(Stored {
-                at,
-                words: range.words as usize,
-            })
-        }
+    let spot = found?;
+    if !spot.load {
+        return Err(Refusal::NoRight);
     }
+    Ok(Decision::Load(Stored {
+        at,
+        words: range.words as usize,
+    }))
 }
 
-// Pool statistics of pool i, to be answered with this header; `at` as for a load.
+// Pool statistics of pool i, to be answered with this header; `at` as for a load. A pool of a good state lies in a region.
 pub fn pool_statistics(
     header: Header,
     i: u16,
     pool: Range,
-    found: Found,
+    found: Result<Spot, Miss>,
     at: WordIndex,
     image: &[u32],
-) -> Decision
+) -> Result<Decision, Refusal>
     ensures { result ≡ decide_pool header i pool found at image.now }
 {
     if pool.words == 0 {
-        return Decision::Refuse(Refusal::OutsideRegions);
+        return Err(Refusal::OutsideRegions);
     }
-    match found {
-        // never: a pool of a good state lies in a region
-        Found::StartsOutside => Decision::Refuse(Refusal::OutsideRegions),
-        Found::EndsOutside => Decision::Refuse(Refusal::RunsOut),
-        Found::At(_) => {
-            let walked = walk_pool(words_at(image, at, pool.words as usize));
-            match walked {
-                Walked::Damaged => Decision::Refuse(Refusal::PoolDamaged),
-                Walked::Whole(figures) => Decision::Reply(Report {
-                    header,
-                    pool: i,
-                    figures,
-                }),
-            }
-        }
-    }
+    found?;
+    let walked = walk_pool(words_at(image, at, pool.words as usize));
+    let figures = walked.ok_or(Refusal::PoolDamaged)?;
+    Ok(Decision::Reply(Report {
+        header,
+        pool: i,
+        figures,
+    }))
 }
 
 // WHAT A DECISION MEANS OUTSIDE THE STATE
 
-// Whether a command that is refused so adds one to the refused count.
-pub fn is_counted(r: Refusal) -> bool
-    ensures { result ≡ counted r }
-{
-    match r {
-        Refusal::BadState => false,
-        Refusal::ImageLength => false,
-        Refusal::BufferLength => false,
-        Refusal::Malformed => true,
-        Refusal::OtherApid => false,
-        Refusal::UnknownCode => true,
-        Refusal::PacketLength => true,
-        Refusal::OtherUnit => false,
-        Refusal::BadField => true,
-        Refusal::OutsideRegions => true,
-        Refusal::NoRight => true,
-        Refusal::TransactionBusy => true,
-        Refusal::PlacesBusy => true,
-        Refusal::NotBusy => true,
-        Refusal::PoolDamaged => true,
-        Refusal::NothingToSend => false,
-        Refusal::BadTable => true,
-        Refusal::UnknownSymbol => true,
-        Refusal::RunsOut => true,
-    }
-}
-
 // The answer to a command.
-pub fn answer_of(d: Decision) -> Answer
+pub fn answer_of(d: Result<Decision, Refusal>) -> Result<Written, Refusal>
     ensures { result ≡ answer_of d }
 {
-    match d {
-        Decision::Refuse(r) => Answer::Refused(r),
-        Decision::Dump(_) => Answer::Done(Written { length: 0 }),
-        Decision::Cancel(_) => Answer::Done(Written { length: 0 }),
-        Decision::Load(_) => Answer::Done(Written { length: 0 }),
-        Decision::Reply(_) => Answer::Done(Written { length: 32 }),
-        Decision::Tell(_) => Answer::Done(Written { length: 12 }),
-    }
+    let length = match d? {
+        Decision::Dump(_) | Decision::Cancel(_) | Decision::Load(_) => 0,
+        Decision::Reply(_) => 32,
+        Decision::Tell(_) => 12,
+    };
+    Ok(Written { length })
 }
 
 // The image and the reply after a command.
-pub fn write_out(d: Decision, packet: &[u8], image: &mut [u32], reply: &mut [u8])
+pub fn write_out(d: Result<Decision, Refusal>, packet: &[u8], image: &mut [u32], reply: &mut [u8])
     ensures { (image.new ≡ image_after d packet.now image.old) × (reply.new ≡ reply_after d reply.old) }
 {
-    match d {
-        Decision::Refuse(_) => {}
-        Decision::Dump(_) => {}
-        Decision::Cancel(_) => {}
-        Decision::Load(l) => {
-            let at = l.at;
-            store_words(image, at, packet, l.words);
-        }
-        Decision::Reply(r) => {
-            let header = r.header;
-            let figures = r.figures;
-            put_reply(
-                reply,
-                header.count,
-                header.unit,
-                header.transaction,
-                r.pool,
-                figures,
-            );
-        }
-        Decision::Tell(t) => {
-            let header = t.header;
-            put_value(
-                reply,
-                header.count,
-                header.unit,
-                header.transaction,
-                t.value,
-            );
-        }
+    let Ok(decision) = d else {
+        return;
+    };
+    match decision {
+        Decision::Dump(_) | Decision::Cancel(_) => {}
+        Decision::Load(l) => store_words(image, l.at, packet, l.words),
+        Decision::Reply(r) => put_reply(reply, r.header, r.pool, r.figures),
+        Decision::Tell(t) => put_value(reply, t.header, t.value),
     }
 }
 

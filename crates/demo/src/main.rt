@@ -3,60 +3,98 @@
 #![tactic(auto)]
 
 use command_writer::write_command;
-use report::{front, result, say, show_answer, show_command};
+use report::{show_answer, show_command, show_result};
 use results::answer_length;
 use rules::{Address, Command, Header, Range, Region, Request, Returned, State, SymbolRequest};
 use std::io;
 
-fn range(start: u32, words: u32) -> Range {
-    Range {
-        start: Address(start),
-        words,
+// The unit of the service and of each command.
+const UNIT: u8 = 2;
+
+// The words of the first region.
+const FIRST: Range = Range {
+    start: Address(0x1000),
+    words: 1017,
+};
+
+// The words of the second region, which are pool 1.
+const POOL: Range = Range {
+    start: Address(0x8000),
+    words: 6,
+};
+
+const NO_POOL: Range = Range {
+    start: Address(0),
+    words: 0,
+};
+
+fn region(range: Range) -> Region {
+    Region {
+        range,
+        load: true,
+        dump: true,
     }
 }
 
 // Two regions with both rights. The other entries are not in use.
 fn table() -> [Region; 16] {
-    let first = Region {
-        range: range(4096, 1017),
-        load: true,
-        dump: true,
-    };
-    let second = Region {
-        range: range(32768, 6),
-        load: true,
-        dump: true,
-    };
-    let mut regions = [first; 16];
-    regions[1] = second;
+    let mut regions = [region(FIRST); 16];
+    regions[1] = region(POOL);
     regions
 }
 
-// The second region is pool 1.
 fn start(rt: &impl Print) -> io::Result<State> {
-    say(
-        rt,
-        b"start-up: unit 2, 1017 words at 00001000, 6 words at 00008000, which are pool 1",
-        0,
-        [0; 3],
+    print!(rt;
+        "start-up: unit {UNIT}, {} words at {:08x}, {} words at {:08x}, which are pool 1",
+        FIRST.words, FIRST.start.0, POOL.words, POOL.start.0,
     )?;
-    let started = state::start_up(table(), 2, [range(0, 0), range(32768, 6)], 2);
-    let verdict = started.verdict;
-    result(rt, results::verdict_number(verdict))?;
+    let started = state::start_up(table(), 2, [NO_POOL, POOL], UNIT);
+    show_result(rt, &started.verdict)?;
     Ok(started.state)
 }
 
 // The first region's words count up from 11111111 hex; the pool has a used block of two words and a free one of four.
 fn memory() -> [u32; 1023] {
-    let mut image = [0u32; 1023];
-    let mut i: usize = 0;
-    while i < 1017 {
-        image[i] = 286331153 + i as u32;
-        i += 1;
+    let mut image = [0; 1023];
+    for (word, n) in image[..1017].iter_mut().zip(0x1111_1111..) {
+        *word = n;
     }
-    image[1017] = 2147483650;
-    image[1019] = 4;
+    image[1017..].copy_from_slice(&[0x8000_0002, 0, 4, 0, 0, 0]);
     image
+}
+
+// The symbols "HEAT", at the first region's start, and "H", its alias. A record is its kind, its name's length, two zeros, the name in 48 bytes, and a number.
+fn symbols() -> [u8; 112] {
+    let mut table = [0; 112];
+    table[..8].copy_from_slice(b"\x00\x04\x00\x00HEAT");
+    table[52..56].copy_from_slice(&FIRST.start.0.to_be_bytes());
+    table[56..61].copy_from_slice(b"\x01\x01\x00\x00H");
+    table
+}
+
+// What a step calls: the slot call, or the command call with the packet of a command. `word` is the first word beside the command: the load's,
+// or the first four bytes of a name.
+#[derive(Clone, Copy)]
+enum Step {
+    Slot,
+    Send {
+        header: Header,
+        command: Command,
+        word: u32,
+    },
+}
+
+fn send(count: u16, transaction: u16, command: Command, word: u32) -> Step {
+    let header = Header {
+        count,
+        unit: UNIT,
+        transaction,
+    };
+    Step::Send {
+        header,
+        command,
+        word,
+    }
 }
 
 fn request(size: u16, address: u32) -> Request {
@@ -66,158 +104,70 @@ fn request(size: u16, address: u32) -> Request {
     }
 }
 
-// The command of a step. The second dump runs out of its region, the dump that is cancelled is over, and the last dump starts in no region.
-fn command_at(i: usize) -> Command {
-    match i {
-        0 => Command::Dump(request(1017, 4096)),
-        1 => Command::Load(request(1, 8160)),
-        2 => Command::PoolStatistics(1),
-        6 => Command::Dump(request(2, 8160)),
-        8 => Command::SymbolValue(1),
-        9 => Command::DumpSymbol(SymbolRequest {
-            name: 4,
-            offset: 4064,
-            size: 1,
-        }),
-        11 => Command::Dump(request(2, 8164)),
-        _ => Command::Cancel,
-    }
+// Three commands, three slots, four commands, a slot, a command. The second dump runs out of its region, the dump that is cancelled is over, and
+// the last dump starts in no region.
+fn steps() -> [Step; 12] {
+    let named = SymbolRequest {
+        name: 4,
+        offset: 0xfe0,
+        size: 1,
+    };
+    let heat = u32::from_be_bytes(*b"HEAT");
+    [
+        send(0, 0x123, Command::Dump(request(1017, 0x1000)), 0),
+        send(1, 0xabc, Command::Load(request(1, 0x1fe0)), 0x0102_0304),
+        send(2, 0x124, Command::PoolStatistics(1), 0),
+        Step::Slot,
+        Step::Slot,
+        Step::Slot,
+        send(3, 0x125, Command::Dump(request(2, 0x1fe0)), 0),
+        send(4, 0x123, Command::Cancel, 0),
+        send(5, 0x126, Command::SymbolValue(1), heat),
+        send(6, 0x127, Command::DumpSymbol(named), heat),
+        Step::Slot,
+        send(7, 0x128, Command::Dump(request(2, 0x1fe4)), 0),
+    ]
 }
 
-fn header_at(i: usize) -> Header {
-    match i {
-        0 => Header {
-            count: 0,
-            unit: 2,
-            transaction: 291,
-        },
-        1 => Header {
-            count: 1,
-            unit: 2,
-            transaction: 2748,
-        },
-        2 => Header {
-            count: 2,
-            unit: 2,
-            transaction: 292,
-        },
-        6 => Header {
-            count: 3,
-            unit: 2,
-            transaction: 293,
-        },
-        8 => Header {
-            count: 5,
-            unit: 2,
-            transaction: 294,
-        },
-        9 => Header {
-            count: 6,
-            unit: 2,
-            transaction: 295,
-        },
-        11 => Header {
-            count: 7,
-            unit: 2,
-            transaction: 296,
-        },
-        _ => Header {
-            count: 4,
-            unit: 2,
-            transaction: 291,
-        },
-    }
-}
-
-// The symbols "HEAT", at the first region's start, and "H", its alias.
-fn symbols() -> [u8; 112] {
-    let mut t = [0u8; 112];
-    t[1] = 4;
-    t[4] = b'H';
-    t[5] = b'E';
-    t[6] = b'A';
-    t[7] = b'T';
-    t[54] = 16;
-    t[56] = 1;
-    t[57] = 1;
-    t[60] = b'H';
-    t
-}
-
-// The first word beside the command of a step: the load's, or the first four bytes of "HEAT".
-fn word_at(i: usize) -> u32 {
-    if i == 1 { 16909060 } else { 1212498260 }
-}
-
-// Writes the packet of a step's command, and says how long it is.
-fn write(i: usize, packet: &mut [u8; 68]) -> usize {
-    let words = [word_at(i), 0, 0, 0, 0, 0, 0, 0, 0, 0, 0, 0];
-    answer_length(write_command(header_at(i), command_at(i), &words, packet))
-}
-
-// Shows what a step does: a slot at a tick, or a command, whose packet it writes. Says how long the packet is.
-fn prepare(rt: &impl Print, i: usize, tick: u32, packet: &mut [u8; 68]) -> io::Result<usize> {
-    if ((3 <= i) & (i < 6)) | (i == 10) {
-        say(rt, b"\nslot, tick %", 0, [tick as u64, 0, 0])?;
-        return Ok(0);
-    }
-    let n = write(i, packet);
-    show_command(rt, front(packet, n))?;
-    Ok(n)
-}
-
-// The command call with a packet of n bytes, or the slot call where n is 0.
-fn serve(
-    s: State,
-    packet: &[u8; 68],
-    n: usize,
-    tick: u32,
-    image: &mut [u32; 1023],
-    buffer: &mut [u8; 4092],
-) -> Returned {
-    if 0 < n {
-        return command::command(s, front(packet, n), &symbols(), image, buffer);
-    }
-    slot::slot(s, tick, image, buffer)
-}
-
-// The same, with its answer shown.
+// Shows what a step calls, and calls it.
 fn turn(
     rt: &impl Print,
     s: State,
-    packet: &[u8; 68],
-    n: usize,
+    step: Step,
     tick: u32,
     image: &mut [u32; 1023],
     buffer: &mut [u8; 4092],
-) -> io::Result<State> {
-    let done = serve(s, packet, n, tick, image, buffer);
-    let a = done.answer;
-    show_answer(rt, a, buffer)?;
-    Ok(done.state)
-}
-
-fn totals(rt: &impl Print, s: State) -> io::Result<()> {
-    say(
-        rt,
-        b"\naccepted %, refused %\n",
-        0,
-        [s.accepted as u64, s.refused as u64, 0],
-    )
-}
-
-// Twelve steps: three commands, three slots at ticks 5 to 7, four commands, a slot, a command.
-fn pass(rt: &impl Print, image: &mut [u32; 1023], buffer: &mut [u8; 4092]) -> io::Result<()> {
-    let mut packet = [0u8; 68];
-    let mut s = start(rt)?;
-    let mut i: usize = 0;
-    while i < 12 {
-        let tick = i as u32 + 2;
-        let n = prepare(rt, i, tick, &mut packet)?;
-        s = turn(rt, s, &packet, n, tick, image, buffer)?;
-        i += 1;
+) -> io::Result<Returned> {
+    match step {
+        Step::Slot => {
+            print!(rt; "\nslot, tick {tick}")?;
+            Ok(slot::slot(s, tick, image, buffer))
+        }
+        Step::Send {
+            header,
+            command,
+            word,
+        } => {
+            let mut words = [0; 12];
+            words[0] = word;
+            let mut packet = [0; 68];
+            let n = answer_length(write_command(header, command, &words, &mut packet));
+            let packet = &packet[..n.min(packet.len())];
+            show_command(rt, packet)?;
+            Ok(command::command(s, packet, &symbols(), image, buffer))
+        }
     }
-    totals(rt, s)
+}
+
+// The twelve steps, at ticks from 2 on.
+fn pass(rt: &impl Print, image: &mut [u32; 1023], buffer: &mut [u8; 4092]) -> io::Result<()> {
+    let mut s = start(rt)?;
+    for (tick, step) in (2..).zip(steps()) {
+        let done = turn(rt, s, step, tick, image, buffer)?;
+        show_answer(rt, done.answer, buffer)?;
+        s = done.state;
+    }
+    println!(rt; "\naccepted {}, refused {}", s.accepted, s.refused)
 }
 
 fn main(rt: HostRuntime) -> io::Result<()> {

@@ -1,5 +1,6 @@
 -- What is compared of two packets, and the piece that a packet has.
 -- Assumes nothing.
+use Rattle.std.specs.Prelude.{Result, Ok, Err}
 use mathlib.Core.Path.{◌≡◌, refl}
 use mathlib.Core.Bool.{true, false, ◌&&◌}
 use mathlib.Core.List.{List}
@@ -15,8 +16,6 @@ use Rattle.rules.specs.Results.{lowest}
 use Rattle.rules.specs.Demand3.{pieces, packets_due}
 use Rattle.rules.specs.Ground.{packet_fields, packet_rows, read_packet}
 use Rattle.rules.specs.declared.Refusal.{Refusal}
-use Rattle.rules.specs.declared.Verdict.{Verdict}
-use Rattle.rules.specs.declared.Verdict.TheVariants.{Accepted, Rejected}
 use Rattle.rules.proofs.PacketTests.{packet_out}
 use Rattle.packet_reader.proofs.Steps.{refused_reading, accepted_reading}
 use Rattle.whole_dump.specs.Check.{is_read, agree, piece_of}
@@ -58,17 +57,21 @@ module _ (p : List ℕ) (r : is_read (read_packet p).reading ≡ true) where
 
 -- THE PIECE, by the reader's verdict
 
-module _ (p : List ℕ) (v : Verdict) (ev : v ≡ lowest (packet_rows p)) where
-  pub accepted_read : v ≡ Accepted → is_read (read_packet p).reading ≡ true
+module _ (p : List ℕ) (v : Result (Unit {0}) Refusal) (ev : v ≡ lowest (packet_rows p)) where
+  pub accepted_read : v ≡ (Ok tt) → is_read (read_packet p).reading ≡ true
   accepted_read e = rw (← accepted_reading p v ev e (packet_fields p) refl)
 
+  pub low_piece : v ≡ Ok tt → (be_at 4 p 20 - be_at 4 p 12) / 4 / 1016 < 65
+  unfolding piece_of piece_words
+  low_piece e = piece_low p (accepted_read e)
+
   module _ (first : List ℕ) where
-    pub refused_piece : (r : Refusal) → v ≡ Rejected r → 65 ≡ piece_in first p
+    pub refused_piece : (r : Refusal) → v ≡ Err r → 65 ≡ piece_in first p
     refused_piece r e = rw (← refused_reading p v ev r e)
 
-    pub other_piece : v ≡ Accepted → agree (packet_fields first) (packet_fields p) ≡ false → 65 ≡ piece_in first p
+    pub other_piece : v ≡ (Ok tt) → agree (packet_fields first) (packet_fields p) ≡ false → 65 ≡ piece_in first p
     other_piece e a = rw (accepted_read e, a)
 
-    pub own_piece : v ≡ Accepted → agree (packet_fields first) (packet_fields p) ≡ true → (be_at 4 p 20 - be_at 4 p 12) / 4 / 1016 ≡ piece_in first p
+    pub own_piece : v ≡ (Ok tt) → agree (packet_fields first) (packet_fields p) ≡ true → (be_at 4 p 20 - be_at 4 p 12) / 4 / 1016 ≡ piece_in first p
     unfolding piece_of piece_words
     own_piece e a = rw (accepted_read e, a)

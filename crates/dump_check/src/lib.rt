@@ -1,14 +1,13 @@
 // The ground desk's check of a whole dump (paper 02, A6). It reads the packets' headers, and no data word.
 #![tactic(auto)]
 
-ghost use Rattle.std.specs.Prelude.{◌≡◌, ◌*◌, ◌/◌, ◌≤◌, ◌<◌, eqb, length, get_or, replicate};
+ghost use Rattle.std.specs.Prelude.{◌≡◌, ◌*◌, ◌/◌, ◌≤◌, ◌<◌, eqb, length, get_or, replicate, MatchOption};
 ghost use Rattle.lists.specs.Below.{first_below};
 ghost use Rattle.rules.specs.Ground.{packet_fields};
 ghost use Rattle.whole_dump.specs.Check.{bytes_before, unfit, agree, first_bad, check_dump};
 ghost use Rattle.dump_check.specs.Marks.{piece_in, Marked};
 
 use packet_reader::packet_verdict;
-use rules::Verdict;
 use wire::{read16, read32};
 
 // The bytes of the first n packets.
@@ -16,24 +15,19 @@ fn bytes_listed(lengths: &[u8], n: usize) -> usize
     requires { (n ≤ 65) × (2 * n ≤ length lengths.now) }
     ensures { result ≡ bytes_before lengths.now n }
 {
-    let mut total: u32 = 0;
-    let mut i: usize = 0;
-    while i < n {
-        total = total + read16(lengths, 2 * i) as u32;
-        i += 1;
+    let mut total = 0;
+    for i in 0..n {
+        total += usize::from(read16(lengths, 2 * i));
     }
-    total as usize
+    total
 }
 
 // Number 3.
 fn is_unfit(bytes: &[u8], lengths: &[u8]) -> bool
     ensures { result ≡ unfit bytes.now lengths.now }
 {
-    if lengths.len() % 2 != 0 {
-        return true;
-    }
     let n = lengths.len() / 2;
-    if 65 < n {
+    if lengths.len() % 2 != 0 || 65 < n {
         return true;
     }
     bytes_listed(lengths, n) < bytes.len()
@@ -49,22 +43,14 @@ fn agreeing(p: &[u8], q: &[u8]) -> bool
         & (read32(p, 16) == read32(q, 16))
 }
 
-// The piece that packet p has; 65, which is none, where it is refused or does not agree with the first.
-fn piece_in(first: &[u8], p: &[u8]) -> usize
+// The piece that packet p has, if it is accepted and agrees with the first.
+fn piece_in(first: &[u8], p: &[u8]) -> Option<usize>
     requires { length p.now ≤ length first.now }
-    ensures { result ≡ piece_in first.now p.now }
+    ensures { MatchOption result (65 ≡ piece_in first.now p.now) (λ k. (k < 65) × (k ≡ piece_in first.now p.now)) }
 {
-    let verdict = packet_verdict(p);
-    match verdict {
-        Verdict::Rejected(_) => {
-            return 65;
-        }
-        Verdict::Accepted => {
-            if !agreeing(first, p) {
-                return 65;
-            }
-            return ((read32(p, 20) - read32(p, 12)) / 4 / 1016) as usize;
-        }
+    match packet_verdict(p) {
+        Ok(()) if agreeing(first, p) => Some(((read32(p, 20) - read32(p, 12)) / 4 / 1016) as usize),
+        _ => None,
     }
 }
 
@@ -74,23 +60,20 @@ fn sound_packets(bytes: &[u8], lengths: &[u8], seen: &mut [u8]) -> usize
     ensures { (result ≡ first_bad bytes.now lengths.now) × Marked bytes.now lengths.now result seen.new }
 {
     let n = lengths.len() / 2;
-    let mut at: usize = 0;
-    let mut i: usize = 0;
-    while i < n {
-        let length = read16(lengths, 2 * i) as usize;
+    let mut at = 0;
+    for i in 0..n {
+        let length = usize::from(read16(lengths, 2 * i));
         if bytes.len() - at < length {
             return i;
         }
-        let k = piece_in(bytes, &bytes[at..at + length]);
-        if 65 <= k {
+        let Some(k) = piece_in(bytes, &bytes[at..at + length]) else {
             return i;
-        }
+        };
         if seen[k] != 0 {
             return i;
         }
         seen[k] = 1;
-        at = at + length;
-        i += 1;
+        at += length;
     }
     n
 }
@@ -100,17 +83,10 @@ fn first_unmarked(seen: &[u8], m: usize) -> usize
     requires { m ≤ length seen.now }
     ensures { result ≡ first_below (λ j. eqb (get_or seen.now j 0) 0) m }
 {
-    let mut k: usize = 0;
-    while k < m {
-        if seen[k] == 0 {
-            return k;
-        }
-        k += 1;
-    }
-    m
+    seen[..m].iter().position(|mark| *mark == 0).unwrap_or(m)
 }
 
-// 3; 65,536 and the number of the first bad packet; 131,072 and the lowest missing piece; or 0.
+// 3; 65,536 and the number of the first bad packet; 131,072 and the lowest missing piece; or 0. Kept: numbers are all that the paper has here.
 pub fn check_dump(bytes: &[u8], lengths: &[u8]) -> u32
     ensures { result ≡ check_dump bytes.now lengths.now }
 {

@@ -1,5 +1,6 @@
 -- The command block gives the command back.
 -- Assumes nothing.
+use Rattle.std.specs.Prelude.{Some}
 use mathlib.Core.Path.{◌≡◌, refl, ◌∙◌}
 use mathlib.Core.List.{List, ◌++◌}
 use Prim.Native.Nat.{ℕ, ◌+◌, ◌<◌, min}
@@ -12,7 +13,6 @@ use Rattle.block.proofs.Runs.{list_is, in_front, in_rest}
 use Rattle.rules.specs.ReadBack.{CommandFits}
 use Rattle.rules.specs.declared.Command.{Command}
 use Rattle.rules.specs.declared.Command.TheVariants.{Dump, Cancel, Load, PoolStatistics, SymbolValue, DumpSymbol}
-use Rattle.rules.specs.declared.Decoded.TheVariants.{Known}
 use Rattle.rules.specs.declared.Header.{Header}
 use Rattle.rules.specs.declared.Telecommand.{Telecommand}
 use Rattle.ground_blocks.specs.Fields.{header_in, size_in, command_in, data_in, body_words, tail_words, head_words, block_words}
@@ -44,7 +44,7 @@ last_words f ws i n =
     let m = seven f.command in
     in_rest 0 (head_words f ++ ws) (tail_words f.command) 19 i (simp length-append (omega arith))
 
-back : (h : Header) (k : Command) (ws : List ℕ) → CommandFits k → length ws ≡ 12 → command_in (block_words (record { header = h; command = k }) ws) ≡ Known k
+back : (h : Header) (k : Command) (ws : List ℕ) → CommandFits k → length ws ≡ 12 → command_in (block_words (record { header = h; command = k }) ws) ≡ Some k
 unfolding command_in
 back h (Dump q) ws f n = rw (size_back q.size f.0)
 back h Cancel ws f n = refl

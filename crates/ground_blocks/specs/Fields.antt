@@ -1,11 +1,9 @@
 -- The command block and the dump packet block of the C interface (c/leatgarnet.h).
-use Rattle.std.specs.Prelude.{cond, List, [], ◌∷◌, ◌++◌, ℕ, ◌+◌, min, leb, eqb}
+use Rattle.std.specs.Prelude.{cond, List, [], ◌∷◌, ◌++◌, ℕ, ◌+◌, min, leb, eqb, Option, Some, None}
 use Rattle.rules.specs.Packets.{code_of}
 use Rattle.rules.specs.Regions.{start_of}
 use Rattle.rules.specs.declared.Command.{Command}
 use Rattle.rules.specs.declared.Command.TheVariants.{Dump, Cancel, Load, PoolStatistics, SymbolValue, DumpSymbol}
-use Rattle.rules.specs.declared.Decoded.{Decoded}
-use Rattle.rules.specs.declared.Decoded.TheVariants.{Unknown, Known}
 use Rattle.rules.specs.declared.DumpPacket.{DumpPacket}
 use Rattle.rules.specs.declared.Header.{Header}
 use Rattle.rules.specs.declared.Request.{Request}
@@ -31,14 +29,14 @@ abbrev pub symbol_request_in : List ℕ → SymbolRequest
 symbol_request_in b = record { name = min 255 (word b 19); offset = word b 20; size = size_in (word b 4) }
 
 -- the command by the function code
-unfoldable pub command_in : List ℕ → Decoded
+unfoldable pub command_in : List ℕ → Option Command
 command_in b =
-    cond (eqb (word b 0) 0) (Known (Dump (request_in b)))
-    (cond (eqb (word b 0) 1) (Known Cancel)
-    (cond (eqb (word b 0) 4) (Known (Load (request_in b)))
-    (cond (eqb (word b 0) 7) (Known (PoolStatistics (min 65535 (word b 6))))
-    (cond (eqb (word b 0) 8) (Known (SymbolValue (min 255 (word b 19))))
-    (cond (eqb (word b 0) 9) (Known (DumpSymbol (symbol_request_in b))) Unknown)))))
+    cond (eqb (word b 0) 0) (Some (Dump (request_in b)))
+    (cond (eqb (word b 0) 1) (Some Cancel)
+    (cond (eqb (word b 0) 4) (Some (Load (request_in b)))
+    (cond (eqb (word b 0) 7) (Some (PoolStatistics (min 65535 (word b 6))))
+    (cond (eqb (word b 0) 8) (Some (SymbolValue (min 255 (word b 19))))
+    (cond (eqb (word b 0) 9) (Some (DumpSymbol (symbol_request_in b))) None)))))
 
 -- the twelve words beside the command
 abbrev pub data_in : List ℕ → List ℕ

@@ -7,39 +7,27 @@ ghost use Rattle.ground_blocks.specs.RoundTrip.{CommandRoundTrip};
 
 use block::word_at;
 use packet::{code, code_of};
-use rules::{Address, Command, Decoded, DumpPacket, Header, Request, SymbolRequest, Telecommand};
-
-// The function codes as words of a block.
-const DUMP: u32 = code::DUMP as u32;
-
-const CANCEL: u32 = code::CANCEL as u32;
-
-const LOAD: u32 = code::LOAD as u32;
-
-const POOL: u32 = code::POOL as u32;
-
-const VALUE: u32 = code::VALUE as u32;
-
-const NAMED_DUMP: u32 = code::NAMED_DUMP as u32;
+use rules::{Address, Command, DumpPacket, Header, Request, SymbolRequest, Telecommand};
 
 // A COMMAND READ FROM WORDS
 
+// Kept by size, here and below: one for both would need a trait for the largest of a type.
 fn at_most_16(w: u32) -> u16
     ensures { result ≡ min 65535 w }
 {
-    if w < 65535 { w as u16 } else { 65535 }
+    u16::try_from(w).unwrap_or(u16::MAX)
 }
 
 fn at_most_8(w: u32) -> u8
     ensures { result ≡ min 255 w }
 {
-    if w < 255 { w as u8 } else { 255 }
+    u8::try_from(w).unwrap_or(u8::MAX)
 }
 
 fn size_in(w: u32) -> u16
     ensures { result ≡ size_in w }
 {
-    if w <= 65535 { w as u16 } else { 0 }
+    u16::try_from(w).unwrap_or(0)
 }
 
 pub fn header_in(b: &[u32]) -> Header
@@ -72,18 +60,21 @@ fn symbol_request_in(b: &[u32]) -> SymbolRequest
     SymbolRequest { name, offset, size }
 }
 
-pub fn command_in(b: &[u32]) -> Decoded
+pub fn command_in(b: &[u32]) -> Option<Command>
     ensures { result ≡ command_in b.now }
 {
-    let code = word_at(b, 0);
-    match code {
-        DUMP => Decoded::Known(Command::Dump(request_in(b))),
-        CANCEL => Decoded::Known(Command::Cancel),
-        LOAD => Decoded::Known(Command::Load(request_in(b))),
-        POOL => Decoded::Known(Command::PoolStatistics(at_most_16(word_at(b, 6)))),
-        VALUE => Decoded::Known(Command::SymbolValue(at_most_8(word_at(b, 19)))),
-        NAMED_DUMP => Decoded::Known(Command::DumpSymbol(symbol_request_in(b))),
-        _ => Decoded::Unknown,
+    let word = word_at(b, 0);
+    if 255 < word {
+        return None;
+    }
+    match word as u8 {
+        code::DUMP => Some(Command::Dump(request_in(b))),
+        code::CANCEL => Some(Command::Cancel),
+        code::LOAD => Some(Command::Load(request_in(b))),
+        code::POOL => Some(Command::PoolStatistics(at_most_16(word_at(b, 6)))),
+        code::VALUE => Some(Command::SymbolValue(at_most_8(word_at(b, 19)))),
+        code::NAMED_DUMP => Some(Command::DumpSymbol(symbol_request_in(b))),
+        _ => None,
     }
 }
 
@@ -93,12 +84,10 @@ fn body_words(k: Command) -> [u32; 3]
     ensures { result ≡ body_words k }
 {
     match k {
-        Command::Dump(q) => [q.size as u32, q.address.0, 0],
-        Command::Cancel => [0; 3],
-        Command::Load(q) => [q.size as u32, q.address.0, 0],
-        Command::PoolStatistics(i) => [0, 0, i as u32],
-        Command::SymbolValue(_) => [0; 3],
-        Command::DumpSymbol(q) => [q.size as u32, 0, 0],
+        Command::Dump(q) | Command::Load(q) => [u32::from(q.size), q.address.0, 0],
+        Command::Cancel | Command::SymbolValue(_) => [0; 3],
+        Command::PoolStatistics(i) => [0, 0, u32::from(i)],
+        Command::DumpSymbol(q) => [u32::from(q.size), 0, 0],
     }
 }
 
@@ -106,13 +95,13 @@ pub fn head_words(f: Telecommand) -> [u32; 7]
     ensures { result ≡ head_words f }
 {
     let k = f.command;
-    let code = code_of(k) as u32;
+    let code = u32::from(code_of(k));
     let body = body_words(k);
     [
         code,
-        f.header.count as u32,
-        f.header.unit as u32,
-        f.header.transaction as u32,
+        u32::from(f.header.count),
+        u32::from(f.header.unit),
+        u32::from(f.header.transaction),
         body[0],
         body[1],
         body[2],
@@ -124,12 +113,9 @@ pub fn tail_words(k: Command) -> [u32; 2]
     ensures { result ≡ tail_words k }
 {
     match k {
-        Command::Dump(_) => [0; 2],
-        Command::Cancel => [0; 2],
-        Command::Load(_) => [0; 2],
-        Command::PoolStatistics(_) => [0; 2],
-        Command::SymbolValue(n) => [n as u32, 0],
-        Command::DumpSymbol(q) => [q.name as u32, q.offset],
+        Command::SymbolValue(n) => [u32::from(n), 0],
+        Command::DumpSymbol(q) => [u32::from(q.name), q.offset],
+        _ => [0; 2],
     }
 }
 
@@ -139,9 +125,9 @@ pub fn field_words(f: DumpPacket) -> [u32; 8]
     ensures { result ≡ field_words f }
 {
     [
-        f.header.count as u32,
-        f.header.unit as u32,
-        f.header.transaction as u32,
+        u32::from(f.header.count),
+        u32::from(f.header.unit),
+        u32::from(f.header.transaction),
         f.tick,
         f.range.start.0,
         f.range.words,

@@ -1,6 +1,6 @@
 -- What the reads and writes of places say of a state's block.
 -- Assumes nothing.
-use mathlib.Core.Path.{◌≡◌, sym, ap, ◌∙◌}
+use mathlib.Core.Path.{◌≡◌, ap, ◌∙◌}
 use mathlib.Core.Bool.{true}
 use mathlib.Core.List.{List, [], ◌∷◌}
 use Prim.Native.Nat.{ℕ, ◌+◌, ◌*◌, ◌%◌, ◌<◌}
@@ -10,16 +10,13 @@ use lib.ListN.{length, take, drop}
 use borrow.Author.Tests.{leb-true, eq-eqb, eqb-true, lt-ltb}
 use Rattle.lists.specs.Splice.{splice}
 use Rattle.lists.proofs.Tests.{either}
-use Rattle.rules.specs.States.{context_at}
 use Rattle.rules.specs.declared.Context.{Context}
-use Rattle.block.specs.Blocks.{context_words, word, context_in, places_in, place_in, place_bounds, is_block}
-use Rattle.block.proofs.Bounds.{block_out}
-use Rattle.block.proofs.Forth.{place_bounds_lem}
+use Rattle.block.specs.Blocks.{context_words, word, context_in, places_in, place_in, place_bounds, places_bounds}
+use Rattle.block.proofs.Bounds.{places_out}
 use Rattle.block.proofs.Parts.{bounds_part, places_part}
 use Rattle.block.proofs.Runs.{runs_same}
 use Rattle.lent_places.specs.Reading.{context_read, places_read}
 use Rattle.lent_places.specs.Writing.{placed}
-use Rattle.lent_places.proofs.Steps.{does, does_read}
 
 -- places in their bounds are read as they are
 module _ (b : List ℕ) where
@@ -33,9 +30,6 @@ module _ (b : List ℕ) where
       rw (e, m))
       (λ e. rw e)
 
-  pub read_at : (i : ℕ) → i < 4 → place_bounds b (5 * i) ≡ true → context_at (places_read b) i ≡ context_at (places_in b 0) i
-  read_at i l h = does_read b i l ∙ read_is (5 * i) h ∙ sym (does b i l)
-
   read_places : ((i : ℕ) → i < 4 → place_bounds b (5 * i) ≡ true) → places_read b ≡ places_in b 0
   unfolding places_read
   read_places h =
@@ -43,11 +37,11 @@ module _ (b : List ℕ) where
       (λ i l. let z : 5 * i ≡ 0 + 5 * i = omega arith in
       ap (λ (c : Context). record { context = c } ∷ []) (read_is (5 * i) (h i l) ∙ ap (context_in b) z))
 
--- the places of a block that is a state
-pub block_places : (b : List ℕ) → is_block b ≡ true → places_read (take 20 (drop 54 b)) ≡ places_in b 54
-block_places b h =
+-- the places of a block, in their bounds
+pub bounded_places : (b : List ℕ) → places_bounds b ≡ true → places_read (take 20 (drop 54 b)) ≡ places_in b 54
+bounded_places b h =
     read_places (take 20 (drop 54 b))
-    (λ i l. bounds_part b 54 20 (5 * i) (54 + 5 * i) (omega arith) (omega arith) ∙ place_bounds_lem b (block_out b h) i l)
+    (λ i l. bounds_part b 54 20 (5 * i) (54 + 5 * i) (omega arith) (omega arith) ∙ places_out b h i l)
     ∙ places_part b 54
 
 -- a place written to a block of 80 words

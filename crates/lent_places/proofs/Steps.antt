@@ -1,29 +1,27 @@
--- What the words of a place say that it does, where the searches end, and a place written.
+-- What the words of a place say that it does, and a place written.
 -- Assumes nothing.
+use Rattle.std.specs.Prelude.{Option, None, Some, unwrap_or, MatchOption}
 use mathlib.Core.Path.{◌≡◌, refl, sym, ap, ◌∙◌}
 use mathlib.Core.Logic.{◌≢◌}
-use mathlib.Core.Bool.{Bool, true, false, ◌&&◌, ◌||◌, not}
+use mathlib.Core.Bool.{Bool, true, false, ◌&&◌, ◌||◌}
 use mathlib.Core.List.{List, [], ◌∷◌}
 use Prim.Native.Nat.{ℕ, ◌+◌, ◌*◌, ◌%◌, ◌≤◌, ◌<◌, min}
 use native.Mathlib.Omega.{arith}
 use lib.Dec.{leb, eqb}
 use lib.ListN.{length}
 use borrow.Author.Tests.{le-leb, lt-leb, lt-ltb, le-ltb, eq-eqb, ne_eqb}
-use Rattle.lists.specs.Below.{any_below}
 use Rattle.lists.specs.Splice.{splice}
-use Rattle.lists.proofs.Below.{none_at, none_of, first_none}
-use Rattle.lists.proofs.Tests.{either, by_lt}
-use Rattle.rules.specs.Commands.{is_idle}
 use Rattle.rules.specs.States.{context_at, busy_with, idle_place}
 use Rattle.rules.specs.declared.Context.{Context}
 use Rattle.rules.specs.declared.Context.TheVariants.{Idle, Busy}
 use Rattle.rules.specs.declared.Place.{Place}
 use Rattle.rules.specs.declared.Range.{Range}
+use Rattle.lists.specs.Below.{first_below}
+use Rattle.lists.proofs.Below.{none_of, first_none, first_is}
+use Rattle.lists.proofs.Tests.{either, by_lt}
 use Rattle.rules.proofs.Good.{context_past}
-use Rattle.places.specs.Turns.{first_within}
 use Rattle.block.specs.Blocks.{context_words, word, range_in, context_in, place_in, places_in, place_bounds}
 use Rattle.block.proofs.Lengths.{context_words_length}
-use Rattle.block.proofs.Parts.{context_in_lem}
 use Rattle.block.proofs.Runs.{runs_length, list_at}
 use Rattle.lent_places.specs.Reading.{context_read, places_read}
 use Rattle.lent_places.specs.Writing.{placed}
@@ -41,26 +39,36 @@ module _ (b : List ℕ) where
       let n = runs_length {A = Place} (λ j. record { context = context_read (context_in b (5 * j)) } ∷ []) 1 (λ j. refl) 4 in
       sym (context_past (places_read b) i (omega arith))
 
-  past_with : (t i : ℕ) → 4 ≤ i → busy_with t (context_at (places_in b 0) i) ≡ false
+  pub past_with : (t i : ℕ) → 4 ≤ i → busy_with t (context_at (places_in b 0) i) ≡ false
   past_with t i l =
       let n = runs_length (λ j. place_in b (0 + 5 * j) ∷ []) 1 (λ j. refl) 4 in
       ap (busy_with t) (context_past (places_in b 0) i (omega arith))
 
-  module _ (i : ℕ) (l : i < 4) where
-    pub does : context_at (places_in b 0) i ≡ context_in b (5 * i)
-    does = let z : 0 + 5 * i ≡ 5 * i = omega arith in context_in_lem b 0 i l ∙ ap (context_in b) z
+  -- the answer of a search over the places below k
+  module _ (t k n : ℕ) (e : n ≡ min k 4) where
+    abbrev pub with : ℕ → Bool
+    with i = busy_with t (context_at (places_in b 0) i)
 
-    pub does_read : context_at (places_read b) i ≡ context_read (context_in b (5 * i))
+    pub first_with_is : (r : Option ℕ)
+        → MatchOption r ((j : ℕ) → 0 ≤ j → j < n → with j ≡ false) (λ i. (0 ≤ i) × (i < n) × (with i ≡ true) × ((j : ℕ) → 0 ≤ j → j < i → with j ≡ false))
+        → unwrap_or r k ≡ first_below with k
+    first_with_is None h = sym (first_none with k (none_of with k (λ i l. by_lt i 4 (λ m. h i (omega arith) (omega (arith, e))) (λ m. past_with t i m))))
+    first_with_is (Some i) h = sym (first_is with k (omega (arith, e, h.1)) h.2 (λ j l. h.3 j (omega arith) l))
+
+  does : (i : ℕ) → i < 4 → context_at (places_in b 0) i ≡ context_in b (5 * i)
+  does i l =
+      let z : 0 + 5 * i ≡ 5 * i = omega arith in
+      ap (λ (p : Place). p.context) (list_at {A = Place} idle_place (λ j. place_in b (0 + 5 * j)) 4 i l) ∙ ap (context_in b) z
+
+  pub number_word : (i t w x : ℕ) → i < 4 → w ≡ word b (5 * i) → x ≡ word b (5 * i + 1) → (eqb w 1 && eqb x t) ≡ busy_with t (context_at (places_in b 0) i)
+  number_word i t w x l ew ex = rw (does i l, ← ew, ← ex) (either (eqb w 1) (λ h. rw h) (λ h. rw h))
+
+  module _ (i : ℕ) (l : i < 4) where
+    does_read : context_at (places_read b) i ≡ context_read (context_in b (5 * i))
     unfolding places_read
     does_read = ap (λ (p : Place). p.context) (list_at {A = Place} idle_place (λ j. record { context = context_read (context_in b (5 * j)) }) 4 i l)
 
     module _ (w : ℕ) (ew : w ≡ word b (5 * i)) where
-      pub idle_word : (not (eqb w 1) ≡ is_idle (context_at (places_in b 0) i)) × (not (eqb w 1) ≡ is_idle (context_at (places_read b) i))
-      idle_word = rw (does, does_read, ← ew) (either (eqb w 1) (λ h. rw h (refl, refl)) (λ h. rw h (refl, refl)))
-
-      pub number_word : (t x : ℕ) → x ≡ word b (5 * i + 1) → (eqb w 1 && eqb x t) ≡ busy_with t (context_at (places_in b 0) i)
-      number_word t x ex = rw (does, ← ew, ← ex) (either (eqb w 1) (λ h. rw h) (λ h. rw h))
-
       pub idle_read : w ≢ 1 → Idle ≡ context_at (places_read b) i
       idle_read n = rw (does_read, ← ew, ne_eqb w 1 n)
 
@@ -74,23 +82,16 @@ module _ (b : List ℕ) where
     unfolding place_bounds
     idle_bounds e = rw (lt-leb 4 i l, ← ez, e) (sym (or-false _))
 
-    pub busy_bounds : z ≢ 0 → (eqb z 1 && leb (word b (5 * i + 1)) 65535) ≡ (leb 4 i || place_bounds b (5 * i))
+    pub busy_bounds : z ≡ 1 → leb (word b (5 * i + 1)) 65535 ≡ (leb 4 i || place_bounds b (5 * i))
     unfolding place_bounds
-    busy_bounds n = rw (lt-leb 4 i l, ← ez, ne_eqb z 0 n)
+    busy_bounds e = rw (lt-leb 4 i l, ← ez, e) refl
+
+    pub other_bounds : z ≢ 0 → z ≢ 1 → false ≡ (leb 4 i || place_bounds b (5 * i))
+    unfolding place_bounds
+    other_bounds n m = rw (lt-leb 4 i l, ← ez, ne_eqb z 0 n, ne_eqb z 1 m) refl
 
   pub past_bounds : (i : ℕ) → 4 ≤ i → true ≡ (leb 4 i || place_bounds b (5 * i))
   past_bounds i l = rw (le-leb 4 i l)
-
-  -- WHERE A SEARCH ENDS: none of the first k places is past the last
-
-  pub none_with : (t k n i : ℕ) → n ≡ min k 4 → i ≤ n → n ≤ i → any_below (λ j. busy_with t (context_at (places_in b 0) j)) i ≡ false
-      → k ≡ first_within (places_in b 0) t k
-  unfolding first_within
-  none_with t k n i e l m h =
-      sym (first_none p k (none_of p k (λ j q. by_lt j 4 (λ s. none_at p i h (omega arith)) (λ s. past_with t j s))))
-    where
-      p : ℕ → Bool
-      p j = busy_with t (context_at (places_in b 0) j)
 
 -- A PLACE WRITTEN
 

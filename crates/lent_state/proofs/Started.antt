@@ -30,9 +30,9 @@ use Rattle.lent_state.specs.Writing.{table_written}
 
 -- THE STATE OF ZERO REGIONS: zeros, but for the last place served
 
-pub none_is : {b z : List ℕ} (l : List ℕ) → length l ≡ 80 → z ≡ replicate (length l) 0 → b ≡ set z 74 3 → b ≡ block_of no_state
+pub none_block : block_of no_state ≡ set (replicate 80 0) 74 3
 unfolding block_of runs
-none_is l n ez eb = eb ∙ rw (ez, n)
+none_block = refl
 
 -- A TABLE WRITTEN OVER IT, by words
 
@@ -240,10 +240,6 @@ module _ (t f : List ℕ) (m : word t 1 ≤ 16) (w : Written t f) where
     block_is = let e = w.count in ap block_of (sym state_is) ∙ block_of_lem f (omega arith) is_block_lem (λ i l. leb-true (word f (1 + 3 * i + 2)) 3 (right_is i l))
 
 -- START-UP
-
-none_block : block_of no_state ≡ set (replicate 80 0) 74 3
-unfolding block_of runs
-none_block = refl
 
 no_table : start_rules (replicate 16 no_region) 0 (replicate 2 no_range) 0 ≡ false
 unfolding start_rules table_rules

@@ -1,5 +1,6 @@
 -- Numbers 1 to 3: the words of a good state's image decide as the rows do, and what is then known of the state.
 -- Assumes nothing.
+use Rattle.std.specs.Prelude.{Ok}
 use mathlib.Core.Path.{◌≡◌}
 use mathlib.Core.Logic.{◌≢◌}
 use mathlib.Core.Bool.{true}
@@ -17,7 +18,6 @@ use Rattle.rules.proofs.Good.{GoodIs, good_out}
 use Rattle.rules.proofs.Passed.{lowest_none}
 use Rattle.rules.proofs.Rules.{StartIs, start_out}
 use Rattle.rules.specs.declared.State.{State}
-use Rattle.rules.specs.declared.Verdict.TheVariants.{Accepted}
 use Rattle.regions.proofs.Answers.{some_words}
 use Rattle.opening.specs.Opening.{lent_by, good_words}
 
@@ -39,7 +39,7 @@ module _ (s : State) (image : List ℕ) (size : ℕ) (buffer : List ℕ) where
       (either (eqb (length image) (image_length s.regions s.count)) (λ e. rw e) (λ e. rw e)))
       (λ g. rw g)
 
-  pub lent_out : lowest (lent_rows s image size buffer) ≡ Accepted → LentIs s image size buffer
+  pub lent_out : lowest (lent_rows s image size buffer) ≡ (Ok tt) → LentIs s image size buffer
   unfolding lent_rows
   lent_out h =
       let n = lowest_none _ h in
@@ -48,14 +48,14 @@ module _ (s : State) (image : List ℕ) (size : ℕ) (buffer : List ℕ) where
 
 -- THE GOOD STATE OF A CALL THAT PASSED 1 TO 3
 
-pub lent_good : (s : State) (image size buffer : ℕ) → lent_by (good_words s) image size buffer ≡ Accepted → good_state s ≡ true
+pub lent_good : (s : State) (image size buffer : ℕ) → lent_by (good_words s) image size buffer ≡ (Ok tt) → good_state s ≡ true
 unfolding good_words
 lent_good s image size buffer h =
     either (good_state s) (λ g. g) (λ g. let k = rw g at h in let z : ◌≡◌ {A = ℕ} 0 1 = cc in absurd (omega arith))
 
 -- a call that is lent enough has a good state
-pub lent_some : (w image size buffer : ℕ) → lent_by w image size buffer ≡ Accepted → w ≢ 0
+pub lent_some : (w image size buffer : ℕ) → lent_by w image size buffer ≡ (Ok tt) → w ≢ 0
 lent_some w image size buffer e z =
-    let f : lent_by 0 image size buffer ≡ Accepted = rw z at e in
+    let f : lent_by 0 image size buffer ≡ (Ok tt) = rw z at e in
     let g : ◌≡◌ {A = ℕ} 0 1 = cc in
     absurd (omega arith)

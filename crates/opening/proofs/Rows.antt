@@ -1,5 +1,6 @@
 -- The rows of a call, cut in two.
 -- Assumes nothing.
+use Rattle.std.specs.Prelude.{Option, Some, None, Result, Ok, Err}
 use mathlib.Core.Path.{◌≡◌, refl}
 use mathlib.Core.List.{List, [], ◌∷◌, ◌++◌}
 use Rattle.lists.proofs.Tests.{either}
@@ -10,17 +11,15 @@ use lib.ListN.{length}
 use Rattle.rules.specs.Results.{Row, row, lowest}
 use Rattle.rules.specs.Packets.{apid_of, command_apid, well_formed, command_unit, decode, packet_length}
 use Rattle.rules.specs.Commands.{is_unknown, wrong_length}
-use Rattle.rules.specs.declared.Decoded.{Decoded}
-use Rattle.rules.specs.declared.Decoded.TheVariants.{Unknown, Known}
 use Rattle.rules.specs.declared.Refusal.TheVariants.{UnknownCode, PacketLength, OtherUnit}
 use Rattle.packet.specs.Frame.{frame_rows, headed_of, checked_by}
-use Rattle.rules.specs.declared.Verdict.{Verdict}
-use Rattle.rules.specs.declared.Verdict.TheVariants.{Accepted, Rejected}
+use Rattle.rules.specs.declared.Refusal.{Refusal}
+use Rattle.rules.specs.declared.Command.{Command}
 
 -- of two runs of rows the first decides, unless none of it applies
-abbrev pub or_else : Verdict → Verdict → Verdict
-or_else (Rejected r) v = Rejected r
-or_else Accepted v = v
+abbrev pub or_else : Result (Unit {0}) Refusal → Result (Unit {0}) Refusal → Result (Unit {0}) Refusal
+or_else (Err r) v = Err r
+or_else (Ok tt) v = v
 
 pub lowest_join : (xs ys : List Row) → lowest (xs ++ ys) ≡ or_else (lowest xs) (lowest ys)
 unfolding lowest
@@ -29,15 +28,15 @@ lowest_join (x ∷ xs) ys = either x.applies (λ e. rw e) (λ e. rw e (lowest_jo
 
 -- NUMBERS 4 TO 8: those before the function code, and those that it picks
 
-abbrev pub after_code : List ℕ → ℕ → Decoded → Verdict
-after_code p unit Unknown = Rejected UnknownCode
-after_code p unit (Known k) = checked_by p unit (packet_length k)
+abbrev pub after_code : List ℕ → ℕ → Option Command → Result (Unit {0}) Refusal
+after_code p unit None = Err UnknownCode
+after_code p unit (Some k) = checked_by p unit (packet_length k)
 
 module _ (p : List ℕ) (unit : ℕ) where
-  picked_lowest : (d : Decoded) → lowest (row UnknownCode (is_unknown d) ∷ row PacketLength (wrong_length p d) ∷ row OtherUnit (not (eqb (command_unit p) unit)) ∷ []) ≡ after_code p unit d
+  picked_lowest : (d : Option Command) → lowest (row UnknownCode (is_unknown d) ∷ row PacketLength (wrong_length p d) ∷ row OtherUnit (not (eqb (command_unit p) unit)) ∷ []) ≡ after_code p unit d
   unfolding lowest
-  picked_lowest Unknown = refl
-  picked_lowest (Known k) =
+  picked_lowest None = refl
+  picked_lowest (Some k) =
       either (eqb (length p) (packet_length k))
       (λ l. rw l (either (eqb (command_unit p) unit) (λ u. rw u) (λ u. rw u)))
       (λ l. rw l)

@@ -1,4 +1,4 @@
-// The function codes (paper 01, "Command packets"; paper 02, A2).
+// The function codes (paper 01, "Command packets"; paper 02, A2). Kept as numbers: they are bytes of packets, and an unknown one is a number too.
 pub const DUMP: u8 = 0;
 
 pub const CANCEL: u8 = 1;

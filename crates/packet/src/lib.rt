@@ -9,7 +9,7 @@ ghost use Rattle.packet.specs.Frame.{headed_of, checked_by};
 pub mod code;
 pub mod lengths;
 
-use rules::{Address, Command, Header, Refusal, Request, SymbolRequest, Verdict};
+use rules::{Address, Command, Header, Refusal, Request, SymbolRequest};
 use wire::{byte_at, get16, get32, read16, read32, xor_all};
 
 // Whether a packet has a primary header of this type and second-header flag, with the right version, sequence flags and length field.
@@ -21,8 +21,8 @@ pub fn primary_rules(p: &[u8], kind: u16, second: u16) -> bool
     }
     let w = read32(p, 0);
     (w / 536870912 == 0)
-        & (w / 268435456 % 2 == kind as u32)
-        & (w / 134217728 % 2 == second as u32)
+        & (w / 268435456 % 2 == u32::from(kind))
+        & (w / 134217728 % 2 == u32::from(second))
         & (w / 16384 % 4 == 3)
         & (read16(p, 4) as usize + 7 == p.len())
 }
@@ -136,16 +136,16 @@ pub fn packet_length(k: Command) -> usize
 // A COMMAND PACKET, test by test
 
 // Numbers 4 and 5. The compiler reckons 230 of the 250 that it inlines, and takes this into its two callers, the service and the command reader.
-pub fn headed(p: &[u8]) -> Verdict
+pub fn headed(p: &[u8]) -> Result<(), Refusal>
     ensures { result ≡ headed_of p.now }
 {
     if !well_formed(p) {
-        return Verdict::Rejected(Refusal::Malformed);
+        return Err(Refusal::Malformed);
     }
     if get16(p, 0) % 2048 != 1604 {
-        return Verdict::Rejected(Refusal::OtherApid);
+        return Err(Refusal::OtherApid);
     }
-    Verdict::Accepted
+    Ok(())
 }
 
 // The 7-bit function code.
@@ -169,16 +169,16 @@ pub fn transaction_of(p: &[u8]) -> u16
 }
 
 // Numbers 7 and 8 of a packet for this unit that must have so many bytes.
-pub fn checked(p: &[u8], unit: u8, bytes: usize) -> Verdict
+pub fn checked(p: &[u8], unit: u8, bytes: usize) -> Result<(), Refusal>
     ensures { result ≡ checked_by p.now unit bytes }
 {
     if p.len() != bytes {
-        return Verdict::Rejected(Refusal::PacketLength);
+        return Err(Refusal::PacketLength);
     }
     if unit_of(p) != unit {
-        return Verdict::Rejected(Refusal::OtherUnit);
+        return Err(Refusal::OtherUnit);
     }
-    Verdict::Accepted
+    Ok(())
 }
 
 // The fields of a dump and of a load.

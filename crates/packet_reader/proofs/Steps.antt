@@ -1,5 +1,6 @@
 -- The steps of the dump packet reader give what the table of its rows gives.
 -- Assumes nothing.
+use Rattle.std.specs.Prelude.{Result, Ok, Err}
 use mathlib.Core.Path.{◌≡◌, refl, sym, ap, ◌∙◌}
 use mathlib.Core.Logic.{◌≢◌}
 use mathlib.Core.Bool.{Bool, true, false, ◌&&◌, not}
@@ -19,12 +20,9 @@ use Rattle.rules.specs.Packets.{primary_rules, apid_of}
 use Rattle.rules.specs.Ground.{packet_fields, could_be_dumped, is_cut, cut_rules, packet_rows, conclude_packet, read_packet}
 use Rattle.rules.proofs.LowestNumber.{test_passed}
 use Rattle.rules.specs.declared.DumpPacket.{DumpPacket}
-use Rattle.rules.specs.declared.PacketReading.TheVariants.{NoPacket, Packet}
 use Rattle.rules.specs.declared.Range.{Range}
 use Rattle.rules.specs.declared.Refusal.{Refusal}
 use Rattle.rules.specs.declared.Refusal.TheVariants.{Malformed, OtherApid, PacketLength, BadField}
-use Rattle.rules.specs.declared.Verdict.{Verdict}
-use Rattle.rules.specs.declared.Verdict.TheVariants.{Accepted, Rejected}
 
 -- THE CUT
 
@@ -63,12 +61,12 @@ module _ (f : DumpPacket) where
 
 -- THE ROWS, each from what the functions that were called before gave
 
-pub short : (p : List ℕ) → length p < 28 → Rejected Malformed ≡ lowest (packet_rows p)
+pub short : (p : List ℕ) → length p < 28 → Err Malformed ≡ lowest (packet_rows p)
 unfolding packet_rows lowest
 short p l = rw (lt-leb 28 (length p) l)
 
 module _ (p : List ℕ) (long : 28 ≤ length p) (a : Bool) (ea : a ≡ primary_rules 0 0 p) where
-  pub malformed : not a ≡ true → Rejected Malformed ≡ lowest (packet_rows p)
+  pub malformed : not a ≡ true → Err Malformed ≡ lowest (packet_rows p)
   unfolding packet_rows lowest
   malformed h = let e : primary_rules 0 0 p ≡ false = rw ea at (not-true a h) in rw (le-leb 28 (length p) long, e)
 
@@ -76,7 +74,7 @@ module _ (p : List ℕ) (long : 28 ≤ length p) (a : Bool) (ea : a ≡ primary_
     formed : (leb 28 (length p) && primary_rules 0 0 p) ≡ true
     formed = let e : primary_rules 0 0 p ≡ true = rw ea at (not-false a h) in rw (le-leb 28 (length p) long, e)
 
-    pub other_apid : x % 2048 ≢ 788 → Rejected OtherApid ≡ lowest (packet_rows p)
+    pub other_apid : x % 2048 ≢ 788 → Err OtherApid ≡ lowest (packet_rows p)
     unfolding packet_rows lowest
     other_apid n = let e : eqb (apid_of p) 788 ≡ false = rw ex at (ne_eqb (x % 2048) 788 n) in rw (formed, e)
 
@@ -88,7 +86,7 @@ module _ (p : List ℕ) (long : 28 ≤ length p) (a : Bool) (ea : a ≡ primary_
       sized g = leb 1 g.words && leb g.words 1016 && eqb (length p) (28 + 4 * g.words)
 
       pub wrong_length : not (leb 1 f.words && leb f.words 1016 && eqb (length p) (28 + 4 * f.words)) ≡ true
-          → Rejected PacketLength ≡ lowest (packet_rows p)
+          → Err PacketLength ≡ lowest (packet_rows p)
       unfolding packet_rows lowest piece_words
       wrong_length n =
           let e : sized (packet_fields p) ≡ false = ap sized (sym ef) ∙ not-true (sized f) n in
@@ -98,13 +96,13 @@ module _ (p : List ℕ) (long : 28 ≤ length p) (a : Bool) (ea : a ≡ primary_
         right_length : sized (packet_fields p) ≡ true
         right_length = ap sized (sym ef) ∙ not-false (sized f) l
 
-        pub no_cut : not c ≡ true → Rejected BadField ≡ lowest (packet_rows p)
+        pub no_cut : not c ≡ true → Err BadField ≡ lowest (packet_rows p)
         unfolding packet_rows lowest piece_words
         no_cut n =
             let e : cut_rules (packet_fields p) ≡ false = ap cut_rules (sym ef) ∙ sym ec ∙ not-true c n in
             rw (formed, dumped, right_length, e)
 
-        pub accepted : not c ≡ false → Accepted ≡ lowest (packet_rows p)
+        pub accepted : not c ≡ false → (Ok tt) ≡ lowest (packet_rows p)
         unfolding packet_rows lowest piece_words
         accepted n =
             let e : cut_rules (packet_fields p) ≡ true = ap cut_rules (sym ef) ∙ sym ec ∙ not-false c n in
@@ -112,16 +110,16 @@ module _ (p : List ℕ) (long : 28 ≤ length p) (a : Bool) (ea : a ≡ primary_
 
 -- THE READING, by the verdict
 
-module _ (p : List ℕ) (v : Verdict) (ev : v ≡ lowest (packet_rows p)) where
-  pub refused_reading : (r : Refusal) → v ≡ Rejected r → NoPacket r ≡ (read_packet p).reading
+module _ (p : List ℕ) (v : Result (Unit {0}) Refusal) (ev : v ≡ lowest (packet_rows p)) where
+  pub refused_reading : (r : Refusal) → v ≡ Err r → Err r ≡ (read_packet p).reading
   unfolding read_packet
-  refused_reading r e = ap (λ (w : Verdict). (conclude_packet p w).reading) (sym e ∙ ev)
+  refused_reading r e = ap (λ (w : Result (Unit {0}) Refusal). (conclude_packet p w).reading) (sym e ∙ ev)
 
-  pub accepted_reading : v ≡ Accepted → (f : DumpPacket) → f ≡ packet_fields p → Packet f ≡ (read_packet p).reading
+  pub accepted_reading : v ≡ (Ok tt) → (f : DumpPacket) → f ≡ packet_fields p → Ok f ≡ (read_packet p).reading
   unfolding read_packet
-  accepted_reading e f ef = ap Packet ef ∙ ap (λ (w : Verdict). (conclude_packet p w).reading) (sym e ∙ ev)
+  accepted_reading e f ef = ap Ok ef ∙ ap (λ (w : Result (Unit {0}) Refusal). (conclude_packet p w).reading) (sym e ∙ ev)
 
-  pub accepted_long : v ≡ Accepted → 28 ≤ length p
+  pub accepted_long : v ≡ (Ok tt) → 28 ≤ length p
   unfolding packet_rows
   accepted_long e =
       leb-true _ _ (and_left (leb 28 (length p)) (primary_rules 0 0 p) (not-false _ (test_passed (packet_rows p) (sym ev ∙ e) 4)))
@@ -129,22 +127,22 @@ module _ (p : List ℕ) (v : Verdict) (ev : v ≡ lowest (packet_rows p)) where
 -- THE DATA PART
 
 module _ (p : List ℕ) where
-  pub refused_part : (r : Refusal) → (read_packet p).reading ≡ NoPacket r → (read_packet p).part ≡ []
+  pub refused_part : (r : Refusal) → (read_packet p).reading ≡ Err r → (read_packet p).part ≡ []
   unfolding read_packet
   refused_part r = go (lowest (packet_rows p))
     where
-      go : (v : Verdict) → (conclude_packet p v).reading ≡ NoPacket r → (conclude_packet p v).part ≡ []
-      go (Rejected x) e = refl
-      go Accepted e = let z : ◌≡◌ {A = ℕ} 0 1 = cc in absurd (omega arith)
+      go : (v : Result (Unit {0}) Refusal) → (conclude_packet p v).reading ≡ Err r → (conclude_packet p v).part ≡ []
+      go (Err x) e = refl
+      go (Ok tt) e = let z : ◌≡◌ {A = ℕ} 0 1 = cc in absurd (omega arith)
 
-  pub accepted_part : (f : DumpPacket) → (read_packet p).reading ≡ Packet f → (28 ≤ length p) × ((read_packet p).part ≡ drop 28 p)
+  pub accepted_part : (f : DumpPacket) → (read_packet p).reading ≡ Ok f → (28 ≤ length p) × ((read_packet p).part ≡ drop 28 p)
   unfolding read_packet
   accepted_part f = go (lowest (packet_rows p)) refl
     where
-      go : (v : Verdict) → lowest (packet_rows p) ≡ v → (conclude_packet p v).reading ≡ Packet f → (28 ≤ length p) × ((conclude_packet p v).part ≡ drop 28 p)
-      go (Rejected x) q e = let z : ◌≡◌ {A = ℕ} 0 1 = cc in absurd (omega arith)
-      go Accepted q e = (accepted_long p _ refl q, refl)
+      go : (v : Result (Unit {0}) Refusal) → lowest (packet_rows p) ≡ v → (conclude_packet p v).reading ≡ Ok f → (28 ≤ length p) × ((conclude_packet p v).part ≡ drop 28 p)
+      go (Err x) q e = let z : ◌≡◌ {A = ℕ} 0 1 = cc in absurd (omega arith)
+      go (Ok tt) q e = (accepted_long p _ refl q, refl)
 
   -- the bytes from the header's end to the packet's end
-  pub data_part : (f : DumpPacket) → (read_packet p).reading ≡ Packet f → take (length p - 28) (drop 28 p) ≡ (read_packet p).part
+  pub data_part : (f : DumpPacket) → (read_packet p).reading ≡ Ok f → take (length p - 28) (drop 28 p) ≡ (read_packet p).part
   data_part f e = take_all (length p - 28) (drop 28 p) (simp length-drop (omega arith)) ∙ sym (accepted_part f e).1

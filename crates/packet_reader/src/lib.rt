@@ -6,7 +6,7 @@ ghost use Rattle.rules.specs.Ground.{packet_fields, could_be_dumped, is_cut, cut
 ghost use Rattle.rules.specs.Results.{lowest};
 
 use packet::{header_at, primary_rules};
-use rules::{Address, DumpPacket, PacketReading, Range, Refusal, Verdict};
+use rules::{Address, DumpPacket, Range, Refusal};
 use wire::{read16, read32};
 
 // The fields after the primary header, as they stand.
@@ -36,8 +36,8 @@ fn packet_fields(p: &[u8]) -> DumpPacket
 fn could_be_dumped(r: Range) -> bool
     ensures { result ≡ could_be_dumped r }
 {
-    let start = r.start.0 as u64;
-    let words = r.words as u64;
+    let start = u64::from(r.start.0);
+    let words = u64::from(r.words);
     (start % 4 == 0) & (1 <= words) & (words <= 65535) & (start + 4 * words <= 4294967296)
 }
 
@@ -49,8 +49,7 @@ fn is_cut(r: Range, sent: u32, words: u32) -> bool
         return false;
     }
     let left = r.words - sent;
-    let most = if left < 1016 { left } else { 1016 };
-    (sent % 1016 == 0) & (words == most)
+    (sent % 1016 == 0) & (words == left.min(1016))
 }
 
 // What number 9 tests in a dump packet.
@@ -68,39 +67,36 @@ fn cut_rules(f: DumpPacket) -> bool
 }
 
 // Numbers 4, 5, 7 and 9 of a dump packet.
-pub fn packet_verdict(p: &[u8]) -> Verdict
+pub fn packet_verdict(p: &[u8]) -> Result<(), Refusal>
     ensures { result ≡ lowest (packet_rows p.now) }
 {
     if p.len() < 28 {
-        return Verdict::Rejected(Refusal::Malformed);
+        return Err(Refusal::Malformed);
     }
     if !primary_rules(p, 0, 0) {
-        return Verdict::Rejected(Refusal::Malformed);
+        return Err(Refusal::Malformed);
     }
     if read16(p, 0) % 2048 != 788 {
-        return Verdict::Rejected(Refusal::OtherApid);
+        return Err(Refusal::OtherApid);
     }
     let f = packet_fields(p);
     let words = f.words as usize;
     let sized = (1 <= words) & (words <= 1016) & (p.len() == 28 + 4 * words);
     if !sized {
-        return Verdict::Rejected(Refusal::PacketLength);
+        return Err(Refusal::PacketLength);
     }
     if !cut_rules(f) {
-        return Verdict::Rejected(Refusal::BadField);
+        return Err(Refusal::BadField);
     }
-    Verdict::Accepted
+    Ok(())
 }
 
 // The fields of a dump packet.
-pub fn read_packet(p: &[u8]) -> PacketReading
+pub fn read_packet(p: &[u8]) -> Result<DumpPacket, Refusal>
     ensures { result ≡ (read_packet p.now).reading }
 {
-    let verdict = packet_verdict(p);
-    match verdict {
-        Verdict::Rejected(r) => PacketReading::NoPacket(r),
-        Verdict::Accepted => PacketReading::Packet(packet_fields(p)),
-    }
+    packet_verdict(p)?;
+    Ok(packet_fields(p))
 }
 
 // The data part of a dump packet, which is part of the caller's own packet; empty where the packet is refused.
@@ -109,7 +105,7 @@ pub fn packet_data(p: &[u8]) -> &[u8]
 {
     let reading = read_packet(p);
     match reading {
-        PacketReading::NoPacket(_) => &p[0..0],
-        PacketReading::Packet(_) => &p[28..],
+        Err(_) => &p[0..0],
+        Ok(_) => &p[28..],
     }
 }

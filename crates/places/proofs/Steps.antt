@@ -1,46 +1,49 @@
--- Idle and busy, searches by a loop that counts up, and the round.
+-- Searches over the indices, as the definitions count, and the round.
 -- Assumes nothing.
 use mathlib.Core.Path.{◌≡◌, refl, sym, ap, ◌∙◌}
-use mathlib.Core.Bool.{Bool, true, false, not}
+use mathlib.Core.Bool.{Bool, true, false}
 use mathlib.Core.List.{List}
-use Prim.Native.Nat.{ℕ, ◌+◌, ◌%◌, ◌<◌}
-use native.Mathlib.Numerals.{add-one}
+use Prim.Native.Nat.{ℕ, ◌≤◌, ◌<◌}
+use native.Mathlib.Omega.{arith}
+use Rattle.std.specs.Prelude.{Option, None, Some, unwrap_or, MatchOption}
 use Rattle.lists.specs.Below.{any_below, first_below}
-use Rattle.lists.proofs.Below.{none_at, first_is, first_none}
+use Rattle.lists.proofs.Below.{none_at, none_of, first_is, first_none}
+use Rattle.lists.proofs.Tests.{contra}
 use Rattle.rules.specs.States.{context_at}
-use Rattle.rules.specs.Commands.{is_idle}
 use Rattle.rules.specs.Slots.{is_busy, place_after, next_place}
+use Rattle.rules.specs.declared.ActiveDump.{ActiveDump}
 use Rattle.rules.specs.declared.Context.{Context}
 use Rattle.rules.specs.declared.Context.TheVariants.{Idle, Busy}
 use Rattle.rules.specs.declared.Place.{Place}
+use Rattle.places.specs.Turns.{turn_of, next_turn}
 
--- a place is busy where it is not idle
-busy_is : (c : Context) → is_busy c ≡ not (is_idle c)
-busy_is Idle = refl
-busy_is (Busy d) = refl
+-- the answer of a search over the indices below n, and n where there is none
+pub first_found_is : (p : ℕ → Bool) (n : ℕ) (r : Option ℕ)
+    → MatchOption r ((k : ℕ) → 0 ≤ k → k < n → p k ≡ false) (λ i. (0 ≤ i) × (i < n) × (p i ≡ true) × ((k : ℕ) → 0 ≤ k → k < i → p k ≡ false))
+    → unwrap_or r n ≡ first_below p n
+first_found_is p n None h = sym (first_none p n (none_of p n (λ i l. h i (omega arith) l)))
+first_found_is p n (Some i) h = sym (first_is p n h.1 h.2 (λ j k. h.3 j (omega arith) k))
 
--- none below i passes: the search goes on past i, ends at i, or ends with the indices
-module _ (p : ℕ → Bool) (i : ℕ) (none : any_below p i ≡ false) where
-  pub go_on : p i ≡ false → any_below p (i + 1) ≡ false
-  go_on h = rw (add-one i, none, h)
-
-  pub stop_here : (n : ℕ) → i < n → p i ≡ true → i ≡ first_below p n
-  stop_here n l h = sym (first_is p n l h (λ j k. none_at p i none k))
-
-  pub none_left : (n : ℕ) → n ≡ i → i ≡ first_below p n
-  none_left n e = sym (ap (first_below p) e ∙ first_none p i none)
-
--- the k-th place after the last one served, where none before it was busy
+-- THE ROUND: no place before the k-th after the one served last is busy
 module _ (ps : List Place) (last k : ℕ) (none : any_below (λ j. is_busy (context_at ps (place_after last j))) k ≡ false) where
-  module _ (idle : Bool) (e : idle ≡ is_idle (context_at ps (place_after last k))) where
-    pub stop_at : k < 4 → not idle ≡ true → place_after last k ≡ next_place ps last
-    unfolding next_place
-    stop_at l h =
-        ap (place_after last) (stop_here (λ j. is_busy (context_at ps (place_after last j))) k none 4 l (busy_is (context_at ps (place_after last k)) ∙ rw (← e) h))
+  abbrev busy : ℕ → Bool
+  busy j = is_busy (context_at ps (place_after last j))
 
-    pub go_round : not idle ≡ false → any_below (λ j. is_busy (context_at ps (place_after last j))) (k + 1) ≡ false
-    go_round h = go_on (λ j. is_busy (context_at ps (place_after last j))) k none (busy_is (context_at ps (place_after last k)) ∙ rw (← e) h)
+  pub next_here : k < 4 → (d : ActiveDump) → context_at ps (place_after last k) ≡ Busy d
+      → Some (record { place = place_after last k; dump = d }) ≡ next_turn ps last
+  unfolding next_turn next_place
+  next_here l d e =
+      let k_is : first_below busy 4 ≡ k = first_is busy 4 l (ap is_busy e) (λ j h. none_at busy k none h) in
+      sym (ap (λ j. turn_of (place_after last j) (context_at ps (place_after last j))) k_is ∙ ap (turn_of (place_after last k)) e)
 
-  pub all_idle : 4 ≡ k → (last + 1 + 4) % 4 ≡ next_place ps last
-  unfolding next_place
-  all_idle e = ap (place_after last) (e ∙ none_left (λ j. is_busy (context_at ps (place_after last j))) k none 4 e)
+  pub nobody_next : 4 ≤ k → None ≡ next_turn ps last
+  unfolding next_turn next_place
+  nobody_next l =
+      let k_is : first_below busy 4 ≡ 4 = first_none busy 4 (none_of busy 4 (λ j h. none_at busy k none (omega arith))) in
+      let round : place_after last 4 ≡ place_after last 0 = omega arith in
+      let e : context_at ps (place_after last 0) ≡ Idle = idle_is (context_at ps (place_after last 0)) (none_at busy k none (omega arith)) in
+      sym (ap (λ j. turn_of (place_after last j) (context_at ps (place_after last j))) k_is ∙ ap (λ j. turn_of j (context_at ps j)) round ∙ ap (turn_of (place_after last 0)) e)
+    where
+      idle_is : (a : Context) → is_busy a ≡ false → a ≡ Idle
+      idle_is Idle h = refl
+      idle_is (Busy d) h = absurd (contra refl h)

@@ -3,6 +3,7 @@
 use mathlib.Core.Path.{◌≡◌, refl, sym, ap, ◌∙◌}
 use mathlib.Core.Bool.{false}
 use mathlib.Core.List.{List}
+use Rattle.std.specs.Prelude.{None, Some}
 use Prim.Native.Nat.{ℕ, ◌≤◌, ◌<◌}
 use native.Mathlib.Omega.{arith}
 use Rattle.lists.proofs.Tests.{either, contra}
@@ -15,7 +16,6 @@ use Rattle.rules.specs.declared.Context.TheVariants.{Idle, Busy}
 use Rattle.rules.specs.declared.Place.{Place}
 use Rattle.places.specs.Turns.{turn_of, next_turn, TurnNumbers}
 use Rattle.places.specs.declared.Seat.{Seat}
-use Rattle.places.specs.declared.Turn.TheVariants.{Nobody, Next}
 
 module _ (ps : List Place) (last : ℕ) (low : last ≤ 3) where
   all_idle : any_busy ps ≡ false → (i : ℕ) → i < 4 → context_at ps i ≡ Idle
@@ -25,18 +25,18 @@ module _ (ps : List Place) (last : ℕ) (low : last ≤ 3) where
       by_context Idle e = e
       by_context (Busy d) e = absurd (contra (any_busy_in ps i l (λ z. let q : Idle ≡ Busy d = sym z ∙ e in let z : ◌≡◌ {A = ℕ} 0 1 = cc in omega arith)) h)
 
-  nobody_next : any_busy ps ≡ false → next_turn ps last ≡ Nobody
+  nobody_next : any_busy ps ≡ false → next_turn ps last ≡ None
   unfolding next_turn
   nobody_next h = ap (turn_of (next_place ps last)) (all_idle h (next_place ps last) (next_in_four ps last))
 
-  somebody_next : (d : ActiveDump) → context_at ps (next_place ps last) ≡ Busy d → next_turn ps last ≡ Next (record { place = next_place ps last; dump = d })
+  somebody_next : (d : ActiveDump) → context_at ps (next_place ps last) ≡ Busy d → next_turn ps last ≡ Some (record { place = next_place ps last; dump = d })
   unfolding next_turn
   somebody_next d e = ap (turn_of (next_place ps last)) e
 
-  same_seat : {x y : Seat} → Next x ≡ Next y → x ≡ y
+  same_seat : {x y : Seat} → Some x ≡ Some y → x ≡ y
   same_seat e = cc
 
-  not_nobody : {x : Seat} → Nobody ≡ Next x → ⊥
+  not_nobody : {x : Seat} → None ≡ Some x → ⊥
   not_nobody e = let z : ◌≡◌ {A = ℕ} 0 1 = cc in omega arith
 
   pub turn_numbers : TurnNumbers ps last (next_turn ps last)

@@ -1,5 +1,5 @@
 -- Whose packet is next, and what of a busy dump's rules does not need the region table.
-use Rattle.std.specs.Prelude.{◌≡◌, ◌↔◌, Bool, ◌&&◌, List, ℕ, ◌+◌, ◌%◌, ◌<◌, leb, ltb, eqb}
+use Rattle.std.specs.Prelude.{◌≡◌, ◌↔◌, Bool, ◌&&◌, List, Option, None, Some, ℕ, ◌+◌, ◌%◌, ◌<◌, leb, ltb, eqb}
 use Rattle.lists.specs.Below.{first_below}
 use Rattle.rules.specs.Regions.{aligned}
 use Rattle.rules.specs.States.{piece_words, context_at, busy_with}
@@ -9,15 +9,13 @@ use Rattle.rules.specs.declared.Context.{Context}
 use Rattle.rules.specs.declared.Context.TheVariants.{Idle, Busy}
 use Rattle.rules.specs.declared.Place.{Place}
 use Rattle.places.specs.declared.Seat.{Seat}
-use Rattle.places.specs.declared.Turn.{Turn}
-use Rattle.places.specs.declared.Turn.TheVariants.{Nobody, Next}
 
-abbrev pub turn_of : ℕ → Context → Turn
-turn_of p Idle = Nobody
-turn_of p (Busy d) = Next (record { place = p; dump = d })
+abbrev pub turn_of : ℕ → Context → Option Seat
+turn_of p Idle = None
+turn_of p (Busy d) = Some (record { place = p; dump = d })
 
 -- the first busy place after the last one served, with its dump
-unfoldable pub next_turn : List Place → ℕ → Turn
+unfoldable pub next_turn : List Place → ℕ → Option Seat
 next_turn ps last = turn_of (next_place ps last) (context_at ps (next_place ps last))
 
 -- the lowest of the first k places that is busy with transaction t, and k where there is none
@@ -31,13 +29,13 @@ dump_fields d =
     && eqb (d.sent % piece_words d.range) 0 && ltb d.sent d.range.words
 
 -- THE NUMBERS (paper 01, "Result numbers"): 16 where no dump is busy, and 0 with the dump whose packet is next
-abbrev pub turn_number : Turn → ℕ
-turn_number Nobody = 16
-turn_number (Next x) = 0
+abbrev pub turn_number : Option Seat → ℕ
+turn_number None = 16
+turn_number (Some x) = 0
 
 -- each exactly in its case; whose turn it is: the first busy place after the last one served, going round
-pub record TurnNumbers (ps : List Place) (last : ℕ) (r : Turn) : Type 0 where
+pub record TurnNumbers (ps : List Place) (last : ℕ) (r : Option Seat) : Type 0 where
   pub nobody : (turn_number r ≡ 16) ↔ ((i : ℕ) → i < 4 → context_at ps i ≡ Idle)
-  pub next : (x : Seat) → r ≡ Next x
+  pub next : (x : Seat) → r ≡ Some x
       → (k : ℕ) × (k < 4) × (x.place ≡ (last + 1 + k) % 4) × (context_at ps x.place ≡ Busy x.dump)
       × ((j : ℕ) → j < k → context_at ps ((last + 1 + j) % 4) ≡ Idle)

@@ -1,11 +1,11 @@
-// Dump places: what one does, and the four of a State. The four of a block of words are in lent_places.
+// Dump places: what one does, and the searches over the four of a store. The four of a State are here, those of a block of words in lent_places.
 #![tactic(auto)]
 
-ghost use Rattle.std.specs.Prelude.{◌≡◌, List, ℕ, ◌≤◌, length};
+ghost use Rattle.std.specs.Prelude.{◌≡◌, List, ℕ, ◌≤◌};
 ghost use Rattle.rules.specs.States.{context_at, busy_with};
 ghost use Rattle.rules.specs.Commands.{is_idle, first_idle, set_context};
-ghost use Rattle.rules.specs.Slots.{next_place, after_packet};
-ghost use Rattle.places.specs.Turns.{turn_of, next_turn, first_within, dump_fields, TurnNumbers};
+ghost use Rattle.rules.specs.Slots.{after_packet};
+ghost use Rattle.places.specs.Turns.{next_turn, first_within, dump_fields, TurnNumbers};
 ghost use Rattle.rules.specs.declared.Place.{Place};
 
 use rules::{ActiveDump, Context, Place};
@@ -17,41 +17,19 @@ pub struct Seat {
     pub dump: ActiveDump,
 }
 
-// Whose packet is next.
-#[derive(Clone, Copy)]
-pub enum Turn {
-    Nobody,
-    Next(Seat),
-}
-
-// ONE PLACE: written once for both stores
+// ONE PLACE
 
 // Whether a place is busy with transaction t.
 pub fn busy_with(t: u16, a: Context) -> bool
     ensures { result ≡ busy_with t a }
 {
-    match a {
-        Context::Idle => false,
-        Context::Busy(d) => d.transaction == t,
-    }
+    matches!(a, Context::Busy(d) if d.transaction == t)
 }
 
 pub fn is_idle(a: Context) -> bool
     ensures { result ≡ is_idle a }
 {
-    match a {
-        Context::Idle => true,
-        Context::Busy(_) => false,
-    }
-}
-
-pub fn turn_of(place: usize, a: Context) -> Turn
-    ensures { result ≡ turn_of place a }
-{
-    match a {
-        Context::Idle => Turn::Nobody,
-        Context::Busy(dump) => Turn::Next(Seat { place, dump }),
-    }
+    matches!(a, Context::Idle)
 }
 
 // The rules of a busy dump, but for its region.
@@ -71,101 +49,69 @@ pub fn dump_fields(d: ActiveDump) -> bool
 pub fn after_packet(d: ActiveDump) -> Context
     ensures { result ≡ after_packet d }
 {
-    let sent = d.sent as u64 + 1016;
-    let range = d.range;
-    if sent < range.words as u64 {
-        Context::Busy(ActiveDump {
-            transaction: d.transaction,
-            range,
-            sent: sent as u32,
-        })
-    } else {
-        Context::Idle
+    match d.sent.checked_add(1016) {
+        Some(sent) if sent < d.range.words => Context::Busy(ActiveDump { sent, ..d }),
+        _ => Context::Idle,
     }
 }
 
-// THE PLACES OF A STATE
+// FOUR PLACES
 
-// What the type says of the places, as a fact for a caller's proof.
-fn four_places(ps: [Place; 4])
-    ensures { length ps ≡ 4 }
-{}
+// The four places of a store.
+pub trait Places {
+    ghost places: { Self → List Place };
 
-// What place i does; there is nothing past the last.
-pub fn context_at(ps: [Place; 4], i: usize) -> Context
-    ensures { result ≡ context_at ps i }
-{
-    four_places(ps);
-    if i < 4 {
-        let p = ps[i];
-        p.context
-    } else {
-        Context::Idle
-    }
+    // What place i does; there is nothing past the last.
+    fn context(&self, i: usize) -> Context
+        ensures { result ≡ context_at (places self.now) i };
 }
 
-// The lowest of the first k places that is busy with transaction t, and k where there is none.
-pub fn first_with(ps: [Place; 4], t: u16, k: usize) -> usize
-    ensures { result ≡ first_within ps t k }
-{
-    let mut i: usize = 0;
-    while i < k {
-        if busy_with(t, context_at(ps, i)) {
-            return i;
+impl Places for [Place; 4] {
+    ghost places = { λ ps. ps };
+
+    fn context(&self, i: usize) -> Context {
+        match self.get(i) {
+            Some(place) => place.context,
+            None => Context::Idle,
         }
-        i += 1;
     }
-    i
 }
 
-// The lowest-numbered idle place, and 4 where there is none.
-pub fn first_idle(ps: [Place; 4]) -> usize
-    ensures { result ≡ first_idle ps }
+// The lowest of the first k places that is busy with transaction t, and k where there is none. Kept: k for none, as the definition counts.
+pub fn first_with<P: Places>(ps: &P, t: u16, k: usize) -> usize
+    ensures { result ≡ first_within (P.places ps.now) t k }
 {
-    let mut i: usize = 0;
-    while i < 4 {
-        if is_idle(context_at(ps, i)) {
-            return i;
+    (0..k).find(|i| busy_with(t, ps.context(*i))).unwrap_or(k)
+}
+
+// The lowest-numbered idle place, and 4 where there is none. Kept: 4 as the k above.
+pub fn first_idle<P: Places>(ps: &P) -> usize
+    ensures { result ≡ first_idle (P.places ps.now) }
+{
+    (0..4).find(|i| is_idle(ps.context(*i))).unwrap_or(4)
+}
+
+// Whose packet is next: the dump of the busy place that comes next after the one served last, place 0 again after place 3.
+pub fn next_turn<P: Places>(ps: &P, last: u32) -> Option<Seat>
+    ensures { result ≡ next_turn (P.places ps.now) last }
+{
+    for k in 0..4 {
+        let place = (last as usize + 1 + k) % 4;
+        if let Context::Busy(dump) = ps.context(place) {
+            return Some(Seat { place, dump });
         }
-        i += 1;
     }
-    i
-}
-
-// Whose turn it is: the busy place that comes next after the one served last, place 0 again after place 3.
-fn next_place(ps: [Place; 4], last: u8) -> usize
-    ensures { result ≡ next_place ps last }
-{
-    let from = last as usize + 1;
-    let mut k: usize = 0;
-    while k < 4 {
-        let at = (from + k) % 4;
-        if !is_idle(context_at(ps, at)) {
-            return at;
-        }
-        k += 1;
-    }
-    (from + 4) % 4
-}
-
-// Whose packet is next.
-pub fn next_turn(ps: [Place; 4], last: u8) -> Turn
-    ensures { result ≡ next_turn ps last }
-{
-    let at = next_place(ps, last);
-    turn_of(at, context_at(ps, at))
+    None
 }
 
 // The places with what place i does changed.
-pub fn set_context(ps: [Place; 4], i: usize, a: Context) -> [Place; 4]
+pub fn set_context(mut ps: [Place; 4], i: usize, a: Context) -> [Place; 4]
     ensures { result ≡ set_context ps i a }
 {
-    four_places(ps);
-    let mut qs = ps;
     if i < 4 {
-        qs[i] = Place { context: a };
+        ps[i] = Place { context: a };
     }
-    qs
+    ps
 }
 
 // The number of whose turn it is, exactly in its case. This function does nothing: its contract is what is proved.

@@ -5,6 +5,7 @@ use mathlib.Core.Logic.{◌≢◌}
 use mathlib.Core.List.{List, [], ◌∷◌}
 use Prim.Native.Nat.{ℕ, zero, suc, ◌+◌, ◌-◌, ◌≤◌, ◌<◌, max}
 use native.Mathlib.Omega.{arith}
+use Rattle.std.specs.Prelude.{Option, Some, None}
 use lib.ListN.{length, drop, get_or, length-drop, drop_of_length-le}
 use lib.Seq.{drop-cons, drop-drop}
 use borrow.Author.Tests.{ne_eqb}
@@ -12,8 +13,6 @@ use Rattle.lists.proofs.Tests.{either}
 use Rattle.rules.specs.Pools.{Block, block_of, Walk, damaged, whole, after, blocks_from, is_free, largest}
 use Rattle.pool.specs.declared.Figures.{Figures}
 use Rattle.pool.specs.declared.Tally.{Tally}
-use Rattle.pool.specs.declared.Walked.{Walked}
-use Rattle.pool.specs.declared.Walked.TheVariants.{Damaged, Whole}
 use Rattle.pool.specs.Answers.{figures_of, walked_of, tallied}
 
 -- FIGURES
@@ -33,7 +32,7 @@ together f g =
 abbrev pub counted : Figures → Block → Figures
 counted f b = together f (figures_of (b ∷ []))
 
-same_figures : {f g : Figures}
+pub same_figures : {f g : Figures}
     → (f.free ≡ g.free) × (f.freeblocks ≡ g.freeblocks) × (f.usable ≡ g.usable) × (f.used ≡ g.used) × (f.usedblocks ≡ g.usedblocks) → f ≡ g
 same_figures e = λ i. record { free = e.0 i; freeblocks = e.1 i; usable = e.2 i; used = e.3 i; usedblocks = e.4 i }
 
@@ -85,18 +84,18 @@ module _ (t : Tally) (b : Block) (at : ℕ) (words : t.free ≤ at) (blocks : t.
 
 -- THE FIGURES SO FAR AND A WALK
 
-abbrev pub joined : Figures → Walk → Walked
-joined f damaged = Damaged
-joined f (whole bs) = Whole (together f (figures_of bs))
+abbrev pub joined : Figures → Walk → Option Figures
+joined f damaged = None
+joined f (whole bs) = Some (together f (figures_of bs))
 
 -- nothing so far: the walk is left
 pub joined_start : (x : Walk) → joined (figures_of []) x ≡ walked_of x
 joined_start damaged = refl
-joined_start (whole bs) = ap Whole (none_together (figures_of bs))
+joined_start (whole bs) = ap Some (none_together (figures_of bs))
 
 joined_after : (f : Figures) (b : Block) (x : Walk) → joined f (after b x) ≡ joined (counted f b) x
 joined_after f b damaged = refl
-joined_after f b (whole bs) = ap Whole (counted_first f b bs)
+joined_after f b (whole bs) = ap Some (counted_first f b bs)
 
 -- THE WORDS OF A BLOCK
 
@@ -116,16 +115,16 @@ past_end (suc n) (x ∷ l) h = past_end n l (omega arith)
 
 module _ (f : Figures) (l : List ℕ) (at : ℕ) where
   -- nothing is left: the figures are the walk's
-  pub joined_end : length l ≤ at → joined f (blocks_from 0 (drop at l)) ≡ Whole f
+  pub joined_end : length l ≤ at → joined f (blocks_from 0 (drop at l)) ≡ Some f
   unfolding blocks_from
-  joined_end h = rw (drop_of_length-le l h) (ap Whole (together_none f))
+  joined_end h = rw (drop_of_length-le l h) (ap Some (together_none f))
 
   module _ (here : at < length l) where
     abbrev first : Block
     first = block_of (get_or l at 0)
 
     -- the first word of a block of size 0
-    pub joined_zero : first.size ≡ 0 → joined f (blocks_from 0 (drop at l)) ≡ Damaged
+    pub joined_zero : first.size ≡ 0 → joined f (blocks_from 0 (drop at l)) ≡ None
     unfolding blocks_from
     joined_zero e = rw (drop-cons l at 0 here, e)
 
@@ -135,7 +134,7 @@ module _ (f : Figures) (l : List ℕ) (at : ℕ) where
       opened = rw (drop-cons l at 0 here, ne_eqb first.size 0 some)
 
       -- a block that does not fit
-      pub joined_out : length l - at < first.size → joined f (blocks_from 0 (drop at l)) ≡ Damaged
+      pub joined_out : length l - at < first.size → joined f (blocks_from 0 (drop at l)) ≡ None
       joined_out h =
           let k : length (drop (suc at) l) < first.size - 1 = simp length-drop (omega arith) in
           rw (opened, past_end (first.size - 1) (drop (suc at) l) k)

@@ -1,12 +1,10 @@
 -- A pool's figures in one struct: what a walk answers, and the reply that tells it.
-use Rattle.std.specs.Prelude.{◌≡◌, ◌↔◌, List, [], ◌∷◌, ◌++◌, ℕ, ◌+◌, max}
+use Rattle.std.specs.Prelude.{◌≡◌, ◌↔◌, List, [], ◌∷◌, ◌++◌, ℕ, ◌+◌, max, Option, Some, None}
 use Rattle.wire.specs.Bytes.{be}
 use Rattle.rules.specs.Packets.{primary_header, identity}
 use Rattle.rules.specs.Pools.{Block, Walk, damaged, whole, Tiles, is_free, is_used, words, blocks, largest, usable, reply_apid, reply_length}
 use Rattle.pool.specs.declared.Figures.{Figures}
 use Rattle.pool.specs.declared.Tally.{Tally}
-use Rattle.pool.specs.declared.Walked.{Walked}
-use Rattle.pool.specs.declared.Walked.TheVariants.{Damaged, Whole}
 
 abbrev pub figures_of : List Block → Figures
 figures_of bs =
@@ -18,9 +16,9 @@ figures_of bs =
       usedblocks = blocks is_used bs;
     }
 
-abbrev pub walked_of : Walk → Walked
-walked_of damaged = Damaged
-walked_of (whole bs) = Whole (figures_of bs)
+abbrev pub walked_of : Walk → Option Figures
+walked_of damaged = None
+walked_of (whole bs) = Some (figures_of bs)
 
 -- what the walk carries, with one more block
 unfoldable pub tallied : Tally → Block → Tally
@@ -41,11 +39,11 @@ figure_bytes count unit transaction pool f =
     ++ be 4 f.usedblocks
 
 -- THE NUMBERS (paper 01, "Result numbers"): 15 where the blocks are damaged, and 0 with the figures
-abbrev pub walked_number : Walked → ℕ
-walked_number Damaged = 15
-walked_number (Whole f) = 0
+abbrev pub walked_number : Option Figures → ℕ
+walked_number None = 15
+walked_number (Some f) = 0
 
 -- each exactly in its case: the words are no blocks one after the other, or they are, and the figures are theirs
-pub record WalkedNumbers (ws : List ℕ) (r : Walked) : Type 0 where
+pub record WalkedNumbers (ws : List ℕ) (r : Option Figures) : Type 0 where
   pub damaged : (walked_number r ≡ 15) ↔ ((bs : List Block) → Tiles ws bs → ⊥)
-  pub whole : (walked_number r ≡ 0) ↔ ((bs : List Block) × Tiles ws bs × (r ≡ Whole (figures_of bs)))
+  pub whole : (walked_number r ≡ 0) ↔ ((bs : List Block) × Tiles ws bs × (r ≡ Some (figures_of bs)))

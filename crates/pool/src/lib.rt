@@ -7,6 +7,7 @@ ghost use Rattle.wire.specs.Bytes.{word_bytes};
 ghost use Rattle.rules.specs.Pools.{block_of, blocks_of};
 ghost use Rattle.pool.specs.Answers.{tallied, walked_of, figure_bytes, WalkedNumbers};
 
+use rules::Header;
 use wire::put_words;
 
 // Free words, free blocks, usable words of the largest free block; used words, used blocks.
@@ -17,12 +18,6 @@ pub struct Figures {
     pub usable: usize,
     pub used: usize,
     pub usedblocks: usize,
-}
-
-#[derive(Clone, Copy)]
-pub enum Walked {
-    Damaged,
-    Whole(Figures),
 }
 
 // What the walk carries: the free blocks' figures, and how many blocks there are. What is used is the rest of the words and blocks passed.
@@ -50,30 +45,16 @@ fn count_block(t: Tally, w: u32) -> Tally
     let used = 2147483648 <= w;
     let freesize = picked(!used, size);
     let freeone = picked(!used, 1);
-    let mut largest = t.largest;
-    if largest < freesize {
-        largest = freesize;
-    }
     Tally {
         free: t.free + freesize,
         freeblocks: t.freeblocks + freeone,
-        largest: largest,
+        largest: t.largest.max(freesize),
         blocks: t.blocks + 1,
     }
 }
 
-// What the largest free block can hold: its first word isn't usable. 0 if there is none.
-fn usable_words(largest: usize) -> usize
-    ensures { result ≡ largest - 1 }
-{
-    if largest == 0 {
-        return 0;
-    }
-    largest - 1
-}
-
-// The figures of a pool's blocks, from the first word of each.
-pub fn walk_pool(pool: &[u32]) -> Walked
+// The figures of a pool's blocks, from the first word of each. None where they are damaged.
+pub fn walk_pool(pool: &[u32]) -> Option<Figures>
     ensures { result ≡ walked_of (blocks_of pool.now) }
 {
     let mut t = Tally {
@@ -83,38 +64,39 @@ pub fn walk_pool(pool: &[u32]) -> Walked
         blocks: 0,
     };
     let mut at = 0;
+    // kept: a step is as long as the block says
     while at < pool.len() {
         let w = pool[at];
         let size = (w % 2147483648) as usize;
         if size == 0 {
-            return Walked::Damaged;
+            return None;
         }
         if pool.len() - at < size {
-            return Walked::Damaged;
+            return None;
         }
         t = count_block(t, w);
         at = at + size;
     }
-    let usable = usable_words(t.largest);
-    Walked::Whole(Figures {
+    // The first word of the largest free block isn't usable.
+    Some(Figures {
         free: t.free,
         freeblocks: t.freeblocks,
-        usable: usable,
+        usable: t.largest.saturating_sub(1),
         used: at - t.free,
         usedblocks: t.blocks - t.freeblocks,
     })
 }
 
 // The reply as eight words, each number cut to its field.
-fn reply_words(count: u16, unit: u8, transaction: u16, pool: u16, f: Figures) -> [u32; 8]
-    ensures { word_bytes result ≡ figure_bytes (count % 16384) (unit % 16) (transaction % 4096) pool f }
+fn reply_words(h: Header, pool: u16, f: Figures) -> [u32; 8]
+    ensures { word_bytes result ≡ figure_bytes (h.count % 16384) (h.unit % 16) (h.transaction % 4096) pool f }
 {
-    let sequence = 49152 + (count % 16384) as u32;
-    let identity = 4096 * (unit % 16) as u32 + (transaction % 4096) as u32;
+    let sequence = 49152 + u32::from(h.count % 16384);
+    let identity = 4096 * u32::from(h.unit % 16) + u32::from(h.transaction % 4096);
     [
         785 * 65536 + sequence,
         25 * 65536 + identity,
-        pool as u32 * 65536,
+        u32::from(pool) * 65536,
         (f.free % 4294967296) as u32,
         (f.freeblocks % 4294967296) as u32,
         (f.usable % 4294967296) as u32,
@@ -124,12 +106,11 @@ fn reply_words(count: u16, unit: u8, transaction: u16, pool: u16, f: Figures) ->
 }
 
 // The reply at the start of the buffer, each number cut to its field. Where it does not fit, nothing is written.
-pub fn put_reply(reply: &mut [u8], count: u16, unit: u8, transaction: u16, pool: u16, f: Figures)
-    ensures { (32 ≤ length reply.old → reply.new ≡ splice reply.old 0 (figure_bytes (count % 16384) (unit % 16) (transaction % 4096) pool f))
+pub fn put_reply(reply: &mut [u8], h: Header, pool: u16, f: Figures)
+    ensures { (32 ≤ length reply.old → reply.new ≡ splice reply.old 0 (figure_bytes (h.count % 16384) (h.unit % 16) (h.transaction % 4096) pool f))
         × (length reply.old < 32 → reply.new ≡ reply.old) }
 {
-    let words = reply_words(count, unit, transaction, pool, f);
-    put_words(reply, 0, &words);
+    put_words(reply, 0, &reply_words(h, pool, f));
 }
 
 // The number of a pool's walk, exactly in its case. This function does nothing: its contract is what is proved.

@@ -20,8 +20,10 @@ use Rattle.rules.specs.declared.Region.{Region}
 use Rattle.rules.specs.declared.WordIndex.{WordIndex}
 use Rattle.regions.specs.Halving.{find_by_halving}
 use Rattle.regions.specs.Lookup.{table_words, spot_in, found_in, find_region, can_dump, FoundWhen, word_index, found_index, IndexWhen}
-use Rattle.regions.specs.declared.Found.{Found}
-use Rattle.regions.specs.declared.Found.TheVariants.{At, StartsOutside, EndsOutside}
+use Rattle.regions.specs.declared.Miss.{Miss}
+use Rattle.regions.specs.declared.Miss.TheVariants.{StartsOutside, EndsOutside}
+use Rattle.regions.specs.declared.Spot.{Spot}
+use Rattle.std.specs.Prelude.{Result, Ok, Err}
 use Rattle.regions.proofs.InOrder.{right_in_order}
 
 -- THE TABLE'S TEST
@@ -71,7 +73,7 @@ module _ (rs : List Region) (n : ℕ) (a : Range) (rules : table_rules rs n ≡ 
       one_start (region_of rs n (first_of a)) i (starts_out rs n a (region_of rs n (first_of a)) (region_holds rs n (first_of a) e)) h in
       rw (e, k)
 
-  found_nowhere : starts_inside rs n a ≡ false → find_region rs n a ≡ StartsOutside
+  found_nowhere : starts_inside rs n a ≡ false → find_region rs n a ≡ Err StartsOutside
   unfolding find_region
   found_nowhere h = rw h
 
@@ -89,16 +91,16 @@ module _ (rs : List Region) (n : ℕ) (a : Range) (rules : table_rules rs n ≡ 
   not_held : (i : ℕ) → leb (end_of a) (end_of (range_at rs i)) ≡ false → LiesIn any_right rs n a i → ⊥
   not_held i l h = contra (le-leb _ _ h.to) l
 
-  when_whole : (i : ℕ) → StartsIn rs n a i → LiesIn any_right rs n a i → FoundWhen rs n a (At (spot_in rs i))
+  when_whole : (i : ℕ) → StartsIn rs n a i → LiesIn any_right rs n a i → FoundWhen rs n a (Ok (spot_in rs i))
   when_whole i h l =
       record {
         outside = (λ e. absurd (omega arith), λ f. absurd (f i h));
         runs_out_lem = (λ e. absurd (omega arith), λ (j, k, m). absurd (m (rw (one_start j i k h) l)));
         found = (λ e. (i, h, l), λ q. refl);
-        spot = λ j k m. ap (λ x. At (spot_in rs x)) (one_start i j h k);
+        spot = λ j k m. ap (λ x. Ok (spot_in rs x)) (one_start i j h k);
       }
 
-  when_short : (i : ℕ) → StartsIn rs n a i → (LiesIn any_right rs n a i → ⊥) → FoundWhen rs n a EndsOutside
+  when_short : (i : ℕ) → StartsIn rs n a i → (LiesIn any_right rs n a i → ⊥) → FoundWhen rs n a (Err EndsOutside)
   when_short i h l =
       record {
         outside = (λ e. absurd (omega arith), λ f. absurd (f i h));
@@ -107,7 +109,7 @@ module _ (rs : List Region) (n : ℕ) (a : Range) (rules : table_rules rs n ≡ 
         spot = λ j k m. absurd (l (rw (one_start i j h k) m));
       }
 
-  when_none : ((i : ℕ) → StartsIn rs n a i → ⊥) → FoundWhen rs n a StartsOutside
+  when_none : ((i : ℕ) → StartsIn rs n a i → ⊥) → FoundWhen rs n a (Err StartsOutside)
   when_none f =
       record {
         outside = (λ e. f, λ g. refl);
@@ -129,7 +131,7 @@ module _ (rs : List Region) (n : ℕ) (a : Range) (rules : table_rules rs n ≡ 
   -- by the region that holds the range whole, if it has a word or more
   pub found_whole : 1 ≤ a.words
       → find_region rs n a
-      ≡ cond (in_one_region any_right rs n a) (At (spot_in rs (region_of rs n a))) (cond (starts_inside rs n a) EndsOutside StartsOutside)
+      ≡ cond (in_one_region any_right rs n a) (Ok (spot_in rs (region_of rs n a))) (cond (starts_inside rs n a) (Err EndsOutside) (Err StartsOutside))
   found_whole one =
       either (in_one_region any_right rs n a)
       (λ h. let r = region_holds rs n a h in found_there _ (starts_there rs n a one _ r) ∙ rw (h, le-leb _ _ r.to))
@@ -144,11 +146,11 @@ module _ (rs : List Region) (n : ℕ) (a : Range) (rules : table_rules rs n ≡ 
 
 module _ (rs : List Region) (n : ℕ) (a : Range) where
   -- the search by halving finds what the table says
-  pub found_in_order : {f : Found} → f ≡ find_by_halving rs (min n 16) a → table_rules rs n ≡ true → f ≡ find_region rs n a
+  pub found_in_order : {f : Result Spot Miss} → f ≡ find_by_halving rs (min n 16) a → table_rules rs n ≡ true → f ≡ find_region rs n a
   found_in_order e rules = rw (min-eq_left {n = n} {m = 16} (table_count rs n rules).1) at e ∙ (right_in_order rs n a rules).1
 
   -- and each number exactly in its case
-  pub found_exactly : {f : Found} → f ≡ find_by_halving rs (min n 16) a → table_rules rs n ≡ true → FoundWhen rs n a f
+  pub found_exactly : {f : Result Spot Miss} → f ≡ find_by_halving rs (min n 16) a → table_rules rs n ≡ true → FoundWhen rs n a f
   found_exactly e rules = rw (found_in_order e rules) (found_when rs n a rules)
 
   -- a range of a table by the rules lies in one region at most, so the right of the region found decides
@@ -159,7 +161,7 @@ module _ (rs : List Region) (n : ℕ) (a : Range) where
       (λ h. rw h (here h))
       (λ h. rw h (missed ∙ sym (either (in_one_region dump_right rs n a) (λ d. absurd (contra (one_any dump_right rs n a d) h)) (λ d. d)))))
     where
-      missed : can_dump (cond (starts_inside rs n a) EndsOutside StartsOutside) ≡ false
+      missed : can_dump (cond (starts_inside rs n a) (Err EndsOutside) (Err StartsOutside)) ≡ false
       missed = either (starts_inside rs n a) (λ q. rw q) (λ q. rw q)
 
       here : in_one_region any_right rs n a ≡ true → (region_at rs (region_of rs n a)).dump ≡ in_one_region dump_right rs n a
@@ -174,7 +176,7 @@ module _ (rs : List Region) (n : ℕ) (a : Range) where
           absurd (contra t d))
           (λ o. d ∙ sym o))
 
-  pub can_dump_of : (f : Found) → f ≡ find_by_halving rs (min n 16) a → (b : Bool) → b ≡ can_dump f → table_rules rs n ≡ true → 1 ≤ a.words
+  pub can_dump_of : (f : Result Spot Miss) → f ≡ find_by_halving rs (min n 16) a → (b : Bool) → b ≡ can_dump f → table_rules rs n ≡ true → 1 ≤ a.words
       → b ≡ in_one_region dump_right rs n a
   can_dump_of f ef b eb rules one = eb ∙ rw (found_in_order ef rules) (can_dump_found rules one)
 

@@ -1,7 +1,7 @@
 -- One turn of each loop over the table, and what the loops end with.
 -- Assumes nothing.
-use mathlib.Core.Path.{◌≡◌, refl, sym, ap, ◌∙◌}
-use mathlib.Core.Bool.{Bool, true, false, ◌&&◌, ◌||◌}
+use mathlib.Core.Path.{◌≡◌, refl, sym, ◌∙◌}
+use mathlib.Core.Bool.{Bool, true, false, ◌&&◌, ◌||◌, and-true}
 use mathlib.Core.List.{List}
 use Prim.Native.Nat.{ℕ, zero, suc, ◌+◌, ◌-◌, ◌/◌, ◌≤◌, ◌<◌}
 use native.Mathlib.Numerals.{add-one}
@@ -12,18 +12,15 @@ use borrow.Author.Tests.{ltb-false, eqb-false, ne_eqb, le-leb, lt-leb, lt-ltb, l
 use Rattle.lists.specs.Below.{all_below}
 use Rattle.lists.proofs.Tests.{either, contra, and_right, or_left, or_right}
 use Rattle.lists.proofs.Below.{all_at, sum_more}
-use Rattle.rules.specs.Regions.{start_of, end_of, region_at, range_at, end_before, region_rules, table_rules, any_right, holds, first_of, words_below, image_length}
+use Rattle.rules.specs.Regions.{end_of, within, region_at, range_at, end_before, region_rules, table_rules, any_right, holds, first_of, words_below, image_length}
 use Rattle.rules.proofs.Table.{table_count}
 use Rattle.rules.specs.declared.Range.{Range}
 use Rattle.rules.specs.declared.Region.{Region}
-use Rattle.regions.specs.Halving.{middle, next_first, one_left, comparisons, candidate, region_by_halving, compared, find_by_halving}
-use Rattle.regions.specs.Lookup.{holds_by, table_words}
-use Rattle.regions.specs.declared.Found.TheVariants.{At, StartsOutside, EndsOutside}
+use Rattle.regions.specs.Halving.{middle, next_first, one_left, comparisons, is_short, candidate, region_by_halving, compared, find_by_halving}
+use Rattle.regions.specs.Lookup.{table_words}
+use Rattle.regions.specs.declared.Miss.TheVariants.{StartsOutside, EndsOutside}
+use Rattle.std.specs.Prelude.{Ok, Err}
 use Rattle.regions.proofs.InOrder.{left_end, left_round, compared_end, compared_round, few, reach}
-
-pub and-true : (a : Bool) → (a && true) ≡ a
-and-true true = refl
-and-true false = refl
 
 -- THE TABLE'S TEST
 
@@ -64,10 +61,7 @@ module _ (rs : List Region) (i : ℕ) where
   unfolding words_below
   words_more = sym (sum_more (λ k. (range_at rs k).words) i)
 
--- THE SEARCH, with the end of the range worked out before
-
-abbrev pub falls_short : List Region → ℕ → ℕ → Bool
-falls_short rs end i = ltb (end_of (range_at rs i)) end
+-- THE SEARCH
 
 -- the regions that are left, what the rounds to come make of them, and how many were compared, the last one included
 pub record Left (short : ℕ → Bool) (m first left count : ℕ) : Type 0 where
@@ -117,47 +111,46 @@ module _ (short : ℕ → Bool) (m : ℕ) where
   pub count_low : (first left count : ℕ) → Left short m first left count → count ≤ 6
   count_low first left count w = let f = few short 4 0 m in let n = w.counted in omega arith
 
--- the test of a round, with the end of its region as it was worked out
-module _ (rs : List Region) (end first left : ℕ) (e : ℕ) (ee : e ≡ end_of (range_at rs (middle first left))) where
-  pub on_short : e < end → first + left / 2 ≡ next_first (falls_short rs end) first left
-  on_short l = rw (← ee, lt-ltb e end l)
+module _ (rs : List Region) (a : Range) where
+  -- the test of a round
+  pub on_short : (first left : ℕ) → end_of (range_at rs (middle first left)) < end_of a → first + left / 2 ≡ next_first (is_short rs a) first left
+  on_short first left l = rw (lt-ltb (end_of (range_at rs (middle first left))) (end_of a) l)
 
-  pub on_long : end ≤ e → first ≡ next_first (falls_short rs end) first left
-  on_long l = rw (← ee, le-ltb e end l)
+  pub on_long : (first left : ℕ) → end_of a ≤ end_of (range_at rs (middle first left)) → first ≡ next_first (is_short rs a) first left
+  on_long first left l = rw (le-ltb (end_of (range_at rs (middle first left))) (end_of a) l)
 
-pub compared_is : (rs : List Region) (m : ℕ) (a : Range) (end : ℕ) → end ≡ end_of a → {count : ℕ}
-    → count ≡ length (comparisons (falls_short rs end) 4 0 m) → count ≡ length (compared rs m a)
-unfolding compared
-compared_is rs m a end ee e = e ∙ ap (λ x. length (comparisons (falls_short rs x) 4 0 m)) ee
+  pub compared_is : (m : ℕ) {count : ℕ} → count ≡ length (comparisons (is_short rs a) 4 0 m) → count ≡ length (compared rs m a)
+  unfolding compared
+  compared_is m e = e
 
--- the region that is left holds the range, or does not
-module _ (rs : List Region) (m : ℕ) (a : Range) (end : ℕ) (ee : end ≡ end_of a) (k : ℕ) (ek : k ≡ one_left (falls_short rs end) 4 0 m) where
-  is_left : candidate rs m a ≡ k
-  unfolding candidate one_left
-  is_left = rw (← ee) (sym ek)
+  -- the region that is left holds the range, or does not
+  module _ (m k : ℕ) (ek : k ≡ one_left (is_short rs a) 4 0 m) where
+    is_left : candidate rs m a ≡ k
+    unfolding candidate one_left
+    is_left = sym ek
 
-  held_is : holds_by (start_of (range_at rs k)) (range_at rs k).words (start_of a) end ≡ holds any_right rs a k
-  held_is = rw ee (sym (and-true _))
+    held_is : within a (range_at rs k) ≡ holds any_right rs a k
+    held_is = sym (and-true _)
 
-  pub region_held : holds_by (start_of (range_at rs k)) (range_at rs k).words (start_of a) end ≡ true → k ≡ region_by_halving rs m a
-  unfolding region_by_halving
-  region_held h = rw (is_left, sym held_is ∙ h)
+    pub region_held : within a (range_at rs k) ≡ true → k ≡ region_by_halving rs m a
+    unfolding region_by_halving
+    region_held h = rw (is_left, sym held_is ∙ h)
 
-  pub region_none : holds_by (start_of (range_at rs k)) (range_at rs k).words (start_of a) end ≡ false → m ≡ region_by_halving rs m a
-  unfolding region_by_halving
-  region_none h = rw (is_left, sym held_is ∙ h)
+    pub region_none : within a (range_at rs k) ≡ false → m ≡ region_by_halving rs m a
+    unfolding region_by_halving
+    region_none h = rw (is_left, sym held_is ∙ h)
 
 -- THE LOOKUP, by the region that the search gave
 module _ (rs : List Region) (m : ℕ) (a : Range) (k : ℕ) (ek : k ≡ region_by_halving rs m (first_of a)) where
-  pub found_none : m ≤ k → StartsOutside ≡ find_by_halving rs m a
+  pub found_none : m ≤ k → Err StartsOutside ≡ find_by_halving rs m a
   unfolding find_by_halving
   found_none l = rw (← ek, le-ltb k m l)
 
-  pub found_short : k < m → end_of (range_at rs k) < end_of a → EndsOutside ≡ find_by_halving rs m a
+  pub found_short : k < m → end_of (range_at rs k) < end_of a → Err EndsOutside ≡ find_by_halving rs m a
   unfolding find_by_halving
   found_short l q = rw (← ek, lt-ltb k m l, lt-leb (end_of a) (end_of (range_at rs k)) q)
 
   pub found_at : k < m → end_of a ≤ end_of (range_at rs k)
-      → At (record { region = k; load = (region_at rs k).load; dump = (region_at rs k).dump }) ≡ find_by_halving rs m a
+      → Ok (record { region = k; load = (region_at rs k).load; dump = (region_at rs k).dump }) ≡ find_by_halving rs m a
   unfolding find_by_halving
   found_at l q = rw (← ek, lt-ltb k m l, le-leb (end_of a) (end_of (range_at rs k)) q)

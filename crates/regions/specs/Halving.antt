@@ -1,13 +1,14 @@
 -- Paper 02, A3: the region that holds a range, searched by halving. What the search answers for every table, in order or not, and what it compares.
 -- The lookup searches for the first word of its range (A5).
 -- A table by the rules is in order, and there it finds paper 01's region: `RightInOrder`.
-use Rattle.std.specs.Prelude.{◌≡◌, Bool, true, cond, List, [], ◌∷◌, ℕ, zero, suc, ◌+◌, ◌-◌, ◌/◌, ◌≤◌, ◌<◌, leb, ltb, length, get_or}
+use Rattle.std.specs.Prelude.{◌≡◌, Bool, true, cond, List, [], ◌∷◌, ℕ, zero, suc, ◌+◌, ◌-◌, ◌/◌, ◌≤◌, ◌<◌, leb, ltb, length, get_or, Result, Err}
 use Rattle.rules.specs.Regions.{end_of, region_at, range_at, table_rules, any_right, holds, first_of, region_of}
 use Rattle.rules.specs.declared.Range.{Range}
 use Rattle.rules.specs.declared.Region.{Region}
 use Rattle.regions.specs.Lookup.{found_number, found_in, find_region}
-use Rattle.regions.specs.declared.Found.{Found}
-use Rattle.regions.specs.declared.Found.TheVariants.{StartsOutside}
+use Rattle.regions.specs.declared.Miss.{Miss}
+use Rattle.regions.specs.declared.Miss.TheVariants.{StartsOutside}
+use Rattle.regions.specs.declared.Spot.{Spot}
 
 -- HALVING. The `left` regions from `first` on are those that may still hold the range; `short i` says that region i ends before the range does.
 
@@ -54,9 +55,9 @@ pub record AtMostFive (rs : List Region) (n : ℕ) (a : Range) : Type 0 where
       → region_by_halving other n a ≡ region_by_halving rs n a
 
 -- THE LOOKUP: this search for the range's first word, and whether the region that holds it holds the range whole
-unfoldable pub find_by_halving : List Region → ℕ → Range → Found
+unfoldable pub find_by_halving : List Region → ℕ → Range → Result Spot Miss
 find_by_halving rs n a =
-    cond (ltb (region_by_halving rs n (first_of a)) n) (found_in rs a (region_by_halving rs n (first_of a))) StartsOutside
+    cond (ltb (region_by_halving rs n (first_of a)) n) (found_in rs a (region_by_halving rs n (first_of a))) (Err StartsOutside)
 
 -- THE LAWS. The regions that the search for the first word compares, at most five, settle the number of the lookup's answer: no sixth decides whether the
 -- range runs out.

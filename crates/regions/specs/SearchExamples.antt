@@ -1,11 +1,10 @@
 -- The search by halving computed on tables: what it finds, and what it compares on the way.
-use Rattle.std.specs.Prelude.{◌≡◌, true, false, List, [], ◌∷◌, map, ℕ, ◌+◌, ◌*◌, ◌/◌}
+use Rattle.std.specs.Prelude.{◌≡◌, true, false, List, [], ◌∷◌, map, ℕ, ◌+◌, ◌*◌, ◌/◌, Ok}
 use Rattle.rules.specs.Examples.{range, both}
 use Rattle.rules.specs.Regions.{table_rules, region_of}
 use Rattle.rules.specs.declared.Region.{Region}
 use Rattle.regions.specs.Halving.{region_by_halving, compared, find_by_halving}
 use Rattle.regions.specs.Lookup.{found_number, found_index}
-use Rattle.regions.specs.declared.Found.TheVariants.{At}
 
 abbrev pub numbers : List ℕ
 numbers = 0 ∷ 1 ∷ 2 ∷ 3 ∷ 4 ∷ 5 ∷ 6 ∷ 7 ∷ 8 ∷ 9 ∷ 10 ∷ 11 ∷ 12 ∷ 13 ∷ 14 ∷ 15 ∷ []
@@ -31,7 +30,7 @@ pub record SearchExamples : Type 0 where
   pub outside : map (λ (a : ℕ). region_by_halving sixteen 16 (range a 1)) (0x0FFC ∷ 0x1080 ∷ 0x108C ∷ 0x1110 ∷ []) ≡ 16 ∷ 16 ∷ 16 ∷ 16 ∷ []
   -- the lookup: two words inside each region, with its number, and the index of the first; one word past each region's end; in the gap
   pub found : map (λ i. find_by_halving sixteen 16 (range (start_at i + 4) 2)) numbers
-      ≡ map (λ i. At (record { region = i; load = true; dump = true })) numbers
+      ≡ map (λ i. Ok (record { region = i; load = true; dump = true })) numbers
   pub index : map (λ i. (found_index sixteen (range (start_at i + 4) 2) (find_by_halving sixteen 16 (range (start_at i + 4) 2))).0) numbers ≡ map (λ i. 4 * i + 1) numbers
   pub runs_out_lem : map (λ i. found_number (find_by_halving sixteen 16 (range (start_at i + 12) 2))) numbers ≡ map (λ i. 19) numbers
   pub starts_outside : map (λ (a : ℕ). found_number (find_by_halving sixteen 16 (range a 2))) (0x0FFC ∷ 0x1080 ∷ 0x108C ∷ 0x1110 ∷ []) ≡ 10 ∷ 10 ∷ 10 ∷ 10 ∷ []

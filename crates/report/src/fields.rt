@@ -1,106 +1,115 @@
 // The fields of packets.
-use crate::form::{after, front, say, text};
-use rules::{Command, DumpPacket, Header, Request, SymbolRequest, Telecommand};
-use std::io;
+use rules::{Command, DumpPacket, Header, Range, Request, Telecommand};
+use std::{fmt, io};
 use wire::get32;
 
-fn range(rt: &impl Print, size: u64, address: u64) -> io::Result<()> {
-    let one = size == 1;
-    say(
-        rt,
-        b" % words at #| % word at #",
-        one as usize,
-        [size, address, 0],
-    )
+// How many words.
+#[derive(Clone, Copy)]
+struct Words(u32);
+
+impl fmt::Display for Words {
+    fn fmt<W: fmt::Write>(&self, f: &mut fmt::Formatter<W>) -> fmt::Result {
+        match self.0 {
+            1 => write!(f, "1 word"),
+            n => write!(f, "{n} words"),
+        }
+    }
 }
 
-fn header(rt: &impl Print, h: Header) -> io::Result<()> {
-    say(
-        rt,
-        b", unit %, transaction $, count %",
-        0,
-        [h.unit as u64, h.transaction as u64, h.count as u64],
-    )
+// A range: how many words, and the address of the first.
+#[derive(Clone, Copy)]
+struct Span(Range);
+
+impl fmt::Display for Span {
+    fn fmt<W: fmt::Write>(&self, f: &mut fmt::Formatter<W>) -> fmt::Result {
+        let words = Words(self.0.words);
+        write!(f, "{words} at {:08x}", self.0.start.0)
+    }
 }
 
-fn request(rt: &impl Print, name: &[u8], q: Request) -> io::Result<()> {
-    text(rt, name)?;
-    range(rt, q.size as u64, q.address.0 as u64)
+// What every packet carries.
+#[derive(Clone, Copy)]
+struct Identity(Header);
+
+impl fmt::Display for Identity {
+    fn fmt<W: fmt::Write>(&self, f: &mut fmt::Formatter<W>) -> fmt::Result {
+        let Header {
+            count,
+            unit,
+            transaction,
+        } = self.0;
+        write!(
+            f,
+            "unit {unit}, transaction {transaction:03x}, count {count}"
+        )
+    }
 }
 
-fn pool(rt: &impl Print, i: u64) -> io::Result<()> {
-    say(rt, b"\npool statistics of pool %", 0, [i, 0, 0])
+// The range that a dump or a load asks for.
+fn asked(q: Request) -> Span {
+    Span(Range {
+        start: q.address,
+        words: u32::from(q.size),
+    })
 }
 
-fn symbol(rt: &impl Print, what: &[u8], name: &[u8]) -> io::Result<()> {
-    text(rt, what)?;
-    text(rt, b" of symbol ")?;
-    text(rt, name)
+// The name of n bytes of a symbol, which stands in the packet from byte 12 on.
+fn name_in(p: &[u8], n: u8) -> &[u8] {
+    p.get(12..12 + usize::from(n)).unwrap_or(&[])
 }
 
-fn by_name(rt: &impl Print, q: SymbolRequest, name: &[u8]) -> io::Result<()> {
-    let one = q.size == 1;
-    say(
-        rt,
-        b"\ndump % words at offset # from symbol |\ndump % word at offset # from symbol ",
-        one as usize,
-        [q.size as u64, q.offset as u64, 0],
-    )?;
-    text(rt, name)
-}
-
-// A command and its fields. A symbol's name stands in the packet from byte 12 on.
+// A command and its fields. A name may hold any bytes, and they are written as they are.
 fn command(rt: &impl Print, k: Command, p: &[u8]) -> io::Result<()> {
     match k {
-        Command::Dump(q) => request(rt, b"\ndump", q),
-        Command::Cancel => text(rt, b"\ncancel"),
-        Command::Load(q) => request(rt, b"\nload", q),
-        Command::PoolStatistics(i) => pool(rt, i as u64),
-        Command::SymbolValue(n) => symbol(rt, b"\nvalue", front(after(p, 12), n as usize)),
-        Command::DumpSymbol(q) => by_name(rt, q, front(after(p, 12), q.name as usize)),
+        Command::Dump(q) => print!(rt; "\ndump {}", asked(q)),
+        Command::Cancel => print!(rt; "\ncancel"),
+        Command::Load(q) => print!(rt; "\nload {}", asked(q)),
+        Command::PoolStatistics(i) => print!(rt; "\npool statistics of pool {i}"),
+        Command::SymbolValue(n) => {
+            print!(rt; "\nvalue of symbol ")?;
+            rt.write_all(name_in(p, n))
+        }
+        Command::DumpSymbol(q) => {
+            let words = Words(u32::from(q.size));
+            print!(rt; "\ndump {words} at offset {:08x} from symbol ", q.offset)?;
+            rt.write_all(name_in(p, q.name))
+        }
     }
 }
 
 // A command packet's fields.
 pub fn telecommand(rt: &impl Print, f: Telecommand, p: &[u8]) -> io::Result<()> {
-    let k = f.command;
-    command(rt, k, p)?;
-    let h = f.header;
-    header(rt, h)
+    command(rt, f.command, p)?;
+    print!(rt; ", {}", Identity(f.header))
 }
 
 // A dump packet's fields.
 pub fn dump_fields(rt: &impl Print, f: DumpPacket) -> io::Result<()> {
-    text(rt, b"\n  of")?;
-    range(rt, f.range.words as u64, f.range.start.0 as u64)?;
-    text(rt, b" here")?;
-    range(rt, f.words as u64, f.here.0 as u64)?;
-    say(rt, b", tick %", 0, [f.tick as u64, 0, 0])?;
-    let h = f.header;
-    header(rt, h)
+    let all = Span(f.range);
+    let here = Span(Range {
+        start: f.here,
+        words: f.words,
+    });
+    print!(rt;
+        "\n  of {all} here {here}, tick {}, {}",
+        f.tick,
+        Identity(f.header)
+    )
 }
 
 // The value that a reply tells.
 pub fn value(rt: &impl Print, reply: &[u8]) -> io::Result<()> {
-    say(rt, b"\n  value #", 0, [get32(reply, 8) as u64, 0, 0])
+    print!(rt; "\n  value {:08x}", get32(reply, 8))
 }
 
 // The five figures of a reply.
 pub fn figures(rt: &impl Print, reply: &[u8]) -> io::Result<()> {
-    say(
-        rt,
-        b"\n  free words %, free blocks %, usable in the largest free block %",
-        0,
-        [
-            get32(reply, 12) as u64,
-            get32(reply, 16) as u64,
-            get32(reply, 20) as u64,
-        ],
-    )?;
-    say(
-        rt,
-        b", used words %, used blocks %",
-        0,
-        [get32(reply, 24) as u64, get32(reply, 28) as u64, 0],
+    print!(rt;
+        "\n  free words {}, free blocks {}, usable in the largest free block {}, used words {}, used blocks {}",
+        get32(reply, 12),
+        get32(reply, 16),
+        get32(reply, 20),
+        get32(reply, 24),
+        get32(reply, 28),
     )
 }

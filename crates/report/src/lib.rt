@@ -2,35 +2,53 @@
 #![tactic(auto)]
 
 mod fields;
-mod form;
 
-use command_reader::read_command;
+use command_reader::reading_of;
 use fields::{dump_fields, figures, telecommand, value};
-use form::bytes;
-pub use form::{front, result, say};
 use packet_reader::read_packet;
-use results::{answer_length, answer_number, packet_number, refusal_number};
-use rules::{Answer, PacketReading, Reading};
+use rules::{Refusal, Written};
 use std::io;
 
-// A command packet: its fields as they are read back, and its bytes.
-pub fn show_command(rt: &impl Print, p: &[u8]) -> io::Result<()> {
-    let read = read_command(p);
-    let reading = read.reading;
-    match reading {
-        Reading::Read(f) => telecommand(rt, f, p)?,
-        Reading::Unread(r) => result(rt, refusal_number(r))?,
-    }
-    bytes(rt, p)
-}
-
-fn more(rt: &impl Print, n: usize) -> io::Result<()> {
-    if 48 < n {
-        say(rt, b"\n    and % bytes more", 0, [(n - 48) as u64, 0, 0])?;
+// Bytes in hex, sixteen to a line.
+fn bytes(rt: &impl Print, p: &[u8]) -> io::Result<()> {
+    for line in p.chunks(16) {
+        print!(rt; "\n   ")?;
+        for b in line {
+            print!(rt; " {b:02x}")?;
+        }
     }
     Ok(())
 }
 
+// The first 48 bytes, and how many more there are.
+fn first_bytes(rt: &impl Print, p: &[u8]) -> io::Result<()> {
+    let (first, more) = p.split_at(p.len().min(48));
+    bytes(rt, first)?;
+    if !more.is_empty() {
+        print!(rt; "\n    and {} bytes more", more.len())?;
+    }
+    Ok(())
+}
+
+// The number of what a call answered, 0 or that of its refusal, and what the number means.
+pub fn show_result<T>(rt: &impl Print, answer: &Result<T, Refusal>) -> io::Result<()> {
+    match answer {
+        Ok(_) => print!(rt; "\n  0 done"),
+        Err(r) => print!(rt; "\n  {} {r}", u32::from(*r)),
+    }
+}
+
+// A command packet: its fields as they are read back, and its bytes.
+pub fn show_command(rt: &impl Print, p: &[u8]) -> io::Result<()> {
+    let reading = reading_of(p);
+    match reading {
+        Ok(f) => telecommand(rt, f, p)?,
+        Err(_) => show_result(rt, &reading)?,
+    }
+    bytes(rt, p)
+}
+
+// What a reply tells: a symbol's value in 12 bytes, or a pool's figures.
 fn tells(rt: &impl Print, reply: &[u8]) -> io::Result<()> {
     if reply.len() == 12 {
         value(rt, reply)
@@ -39,31 +57,32 @@ fn tells(rt: &impl Print, reply: &[u8]) -> io::Result<()> {
     }
 }
 
-// A dump packet's fields and first bytes, or a reply's bytes and what it tells: a symbol's value in 12 bytes, or a pool's figures.
+// A dump packet's fields and first bytes, or a reply's bytes and what it tells.
 fn show_packet(rt: &impl Print, p: &[u8]) -> io::Result<()> {
-    let reading = read_packet(p);
-    match reading {
-        PacketReading::Packet(f) => dump_fields(rt, f)?,
-        PacketReading::NoPacket(_) => {}
+    match read_packet(p) {
+        Ok(f) => {
+            dump_fields(rt, f)?;
+            first_bytes(rt, p)
+        }
+        Err(_) => {
+            first_bytes(rt, p)?;
+            tells(rt, p)
+        }
     }
-    bytes(rt, front(p, 48))?;
-    more(rt, p.len())?;
-    if packet_number(reading) != 0 {
-        tells(rt, p)?;
-    }
-    Ok(())
 }
 
 // What a call answered, and the packet that it left in the buffer.
-pub fn show_answer(rt: &impl Print, a: Answer, buffer: &[u8]) -> io::Result<()> {
-    let n = answer_number(a);
-    let length = answer_length(a);
-    result(rt, n)?;
-    if n == 0 {
-        say(rt, b", % bytes written", 0, [length as u64, 0, 0])?;
-    }
-    if 0 < length {
-        show_packet(rt, front(buffer, length))?;
+pub fn show_answer(
+    rt: &impl Print,
+    answer: Result<Written, Refusal>,
+    buffer: &[u8],
+) -> io::Result<()> {
+    show_result(rt, &answer)?;
+    if let Ok(Written { length }) = answer {
+        print!(rt; ", {length} bytes written")?;
+        if 0 < length {
+            show_packet(rt, &buffer[..length.min(buffer.len())])?;
+        }
     }
     Ok(())
 }

@@ -1,5 +1,6 @@
 -- What the tests of each command say, by function code: what must allow it.
 -- Assumes nothing.
+use Rattle.std.specs.Prelude.{Some, None}
 use mathlib.Core.Path.{◌≡◌, refl, sym, ap, ◌∙◌}
 use mathlib.Core.Logic.{◌≢◌}
 use mathlib.Core.Bool.{Bool, true, false, ◌&&◌, not}
@@ -27,7 +28,6 @@ use Rattle.rules.specs.Cases.{Formed, range_of, range_from, pool_of, NameAllowed
 use Rattle.rules.specs.declared.Context.{Context}
 use Rattle.rules.specs.declared.Context.TheVariants.{Idle, Busy}
 use Rattle.rules.specs.declared.Command.TheVariants.{Dump, Cancel, Load, PoolStatistics, SymbolValue, DumpSymbol}
-use Rattle.rules.specs.declared.Decoded.TheVariants.{Unknown, Known}
 use Rattle.rules.specs.declared.Range.{Range}
 use Rattle.rules.specs.declared.Region.{Region}
 use Rattle.rules.specs.declared.State.{State}
@@ -90,32 +90,32 @@ module _ (s : State) (p : List ℕ) where
 -- THE COMMAND OF A FUNCTION CODE
 
 module _ (p : List ℕ) where
-  pub decode_dump : function_code_of p ≡ 0 → decode p ≡ Known (Dump (request_of p))
+  pub decode_dump : function_code_of p ≡ 0 → decode p ≡ Some (Dump (request_of p))
   unfolding decode
   decode_dump e = rw e
 
-  pub decode_cancel : function_code_of p ≡ 1 → decode p ≡ Known Cancel
+  pub decode_cancel : function_code_of p ≡ 1 → decode p ≡ Some Cancel
   unfolding decode
   decode_cancel e = rw e
 
-  pub decode_load : function_code_of p ≡ 4 → decode p ≡ Known (Load (request_of p))
+  pub decode_load : function_code_of p ≡ 4 → decode p ≡ Some (Load (request_of p))
   unfolding decode
   decode_load e = rw e
 
-  pub decode_pool : function_code_of p ≡ 7 → decode p ≡ Known (PoolStatistics (pool_of p))
+  pub decode_pool : function_code_of p ≡ 7 → decode p ≡ Some (PoolStatistics (pool_of p))
   unfolding decode
   decode_pool e = rw e
 
-  pub decode_value : function_code_of p ≡ 8 → decode p ≡ Known (SymbolValue (name_size_of p))
+  pub decode_value : function_code_of p ≡ 8 → decode p ≡ Some (SymbolValue (name_size_of p))
   unfolding decode
   decode_value e = rw e
 
-  pub decode_by_name : function_code_of p ≡ 9 → decode p ≡ Known (DumpSymbol (symbol_request_of p))
+  pub decode_by_name : function_code_of p ≡ 9 → decode p ≡ Some (DumpSymbol (symbol_request_of p))
   unfolding decode
   decode_by_name e = rw e
 
   pub decode_other : function_code_of p ≢ 0 → function_code_of p ≢ 1 → function_code_of p ≢ 4 → function_code_of p ≢ 7
-      → function_code_of p ≢ 8 → function_code_of p ≢ 9 → decode p ≡ Unknown
+      → function_code_of p ≢ 8 → function_code_of p ≢ 9 → decode p ≡ None
   unfolding decode
   decode_other a b c d e f =
       let k = function_code_of p in
@@ -143,7 +143,7 @@ abbrev pub number_at : State → CommandArgs → ℕ → Bool
 number_at s c i = busy_with (command_transaction c.packet) (context_at s.places i)
 
 module _ (s : State) (c : CommandArgs) where
-  pub dump_out : Tested s c (Known (Dump (request_of c.packet))) → DumpAllowed s c.packet
+  pub dump_out : Tested s c (Some (Dump (request_of c.packet))) → DumpAllowed s c.packet
   unfolding field_rules any_with any_idle
   dump_out t =
       let f = not-false _ t.laid.fields in
@@ -157,7 +157,7 @@ module _ (s : State) (c : CommandArgs) where
         place = (i.0, i.1, idle_out _ i.2);
       }
 
-  pub dump_laid : length c.packet ≡ 16 → start_of (range_of c.packet) % 4 ≡ 0 → 1 ≤ (range_of c.packet).words → Laid c (Known (Dump (request_of c.packet)))
+  pub dump_laid : length c.packet ≡ 16 → start_of (range_of c.packet) % 4 ≡ 0 → 1 ≤ (range_of c.packet).words → Laid c (Some (Dump (request_of c.packet)))
   unfolding field_rules
   dump_laid bytes whole some =
       record {
@@ -169,7 +169,7 @@ module _ (s : State) (c : CommandArgs) where
         fields = ap not (and_both (eq-eqb _ _ whole) (le-leb _ _ some));
       }
 
-  pub dump_in : DumpAllowed s c.packet → Tested s c (Known (Dump (request_of c.packet)))
+  pub dump_in : DumpAllowed s c.packet → Tested s c (Some (Dump (request_of c.packet)))
   unfolding any_with any_idle
   dump_in a =
       let r = one_in dump_right s.regions s.count (range_of c.packet) a.region.0 a.region.1 in
@@ -185,7 +185,7 @@ module _ (s : State) (c : CommandArgs) where
         blocks = refl;
       }
 
-  pub cancel_out : Tested s c (Known Cancel) → CancelAllowed s c.packet
+  pub cancel_out : Tested s c (Some Cancel) → CancelAllowed s c.packet
   unfolding any_with
   cancel_out t =
       record {
@@ -193,7 +193,7 @@ module _ (s : State) (c : CommandArgs) where
         busy = any_at (number_at s c) 4 (not-false _ t.busy);
       }
 
-  pub cancel_in : CancelAllowed s c.packet → Tested s c (Known Cancel)
+  pub cancel_in : CancelAllowed s c.packet → Tested s c (Some Cancel)
   unfolding field_rules any_with
   cancel_in a =
       record {
@@ -207,7 +207,7 @@ module _ (s : State) (c : CommandArgs) where
         blocks = refl;
       }
 
-  pub load_out : Tested s c (Known (Load (request_of c.packet))) → LoadAllowed s c.packet
+  pub load_out : Tested s c (Some (Load (request_of c.packet))) → LoadAllowed s c.packet
   unfolding field_rules
   load_out t =
       let m = aligned (range_of c.packet) in
@@ -224,7 +224,7 @@ module _ (s : State) (c : CommandArgs) where
       }
 
   pub load_laid : length c.packet ≡ 60 → start_of (range_of c.packet) % 4 ≡ 0 → 1 ≤ (range_of c.packet).words → (range_of c.packet).words ≤ 11
-      → Laid c (Known (Load (request_of c.packet)))
+      → Laid c (Some (Load (request_of c.packet)))
   unfolding field_rules
   load_laid bytes whole some most =
       record {
@@ -236,7 +236,7 @@ module _ (s : State) (c : CommandArgs) where
         fields = ap not (and_both (and_both (eq-eqb _ _ whole) (le-leb _ _ some)) (le-leb _ _ most));
       }
 
-  pub load_in : LoadAllowed s c.packet → Tested s c (Known (Load (request_of c.packet)))
+  pub load_in : LoadAllowed s c.packet → Tested s c (Some (Load (request_of c.packet)))
   load_in a =
       let r = one_in load_right s.regions s.count (range_of c.packet) a.region.0 a.region.1 in
       let w = held load_right s.regions s.count (range_of c.packet) a.some r in
@@ -251,7 +251,7 @@ module _ (s : State) (c : CommandArgs) where
         blocks = refl;
       }
 
-  pub pool_out : Tested s c (Known (PoolStatistics (pool_of c.packet))) → PoolAllowed s c
+  pub pool_out : Tested s c (Some (PoolStatistics (pool_of c.packet))) → PoolAllowed s c
   unfolding field_rules
   pool_out t =
       let u = undamaged (blocks_of (pool_words s (pool_of c.packet) c.image)) t.blocks in
@@ -262,12 +262,12 @@ module _ (s : State) (c : CommandArgs) where
         blocks = (u.0, blocks_tiles _ _ u.1);
       }
 
-  pub pool_laid : length c.packet ≡ 12 → pool_of c.packet ≤ 1 → Laid c (Known (PoolStatistics (pool_of c.packet)))
+  pub pool_laid : length c.packet ≡ 12 → pool_of c.packet ≤ 1 → Laid c (Some (PoolStatistics (pool_of c.packet)))
   unfolding field_rules
   pool_laid bytes low =
       record { known = refl; bytes = ap not (eq-eqb _ _ bytes); table = refl; named = refl; range = refl; fields = ap not (le-leb _ _ low) }
 
-  pub pool_in : PoolAllowed s c → Tested s c (Known (PoolStatistics (pool_of c.packet)))
+  pub pool_in : PoolAllowed s c → Tested s c (Some (PoolStatistics (pool_of c.packet)))
   pool_in a =
       record {
         laid = pool_laid a.bytes a.pool;
@@ -313,7 +313,7 @@ module _ (s : State) (c : CommandArgs) where
   name_in_lem : NameAllowed c.packet → (name_fits (name_size_of c.packet) ≡ true) × (eqb (get_or c.packet 11 0) 0 ≡ true)
   name_in_lem a = (and_both (le-leb _ _ a.0) (le-leb _ _ a.1), eq-eqb _ _ a.2)
 
-  pub value_out : Tested s c (Known (SymbolValue (name_size_of c.packet))) → ValueAllowed c
+  pub value_out : Tested s c (Some (SymbolValue (name_size_of c.packet))) → ValueAllowed c
   unfolding zero_rules
   value_out t =
       let m = name_fits (name_size_of c.packet) in
@@ -324,7 +324,7 @@ module _ (s : State) (c : CommandArgs) where
             (not-false _ t.laid.table) (not-false _ t.laid.named),
       )
 
-  pub value_in : ValueAllowed c → Tested s c (Known (SymbolValue (name_size_of c.packet)))
+  pub value_in : ValueAllowed c → Tested s c (Some (SymbolValue (name_size_of c.packet)))
   unfolding zero_rules
   value_in a =
       let x = symbol_in a.1 in
@@ -366,7 +366,7 @@ module _ (s : State) (c : CommandArgs) where
   abbrev range_allowed : Bool
   range_allowed = address_fits value_named (four c.packet 60) && aligned (range_from c.packet address_named) && leb 1 (two c.packet 64)
 
-  pub by_name_out : AreBytes c.packet → Tested s c (Known (DumpSymbol (symbol_request_of c.packet))) → ByNameAllowed s c
+  pub by_name_out : AreBytes c.packet → Tested s c (Some (DumpSymbol (symbol_request_of c.packet))) → ByNameAllowed s c
   unfolding zero_rules any_with any_idle
   by_name_out bytes t =
       let p = c.packet in
@@ -400,7 +400,7 @@ module _ (s : State) (c : CommandArgs) where
       }
 
   pub by_name_laid : (v a : ℕ) → SymbolNamed c 68 v → two c.packet 66 ≡ 0 → Reached v (four c.packet 60) a → a < 4294967296 → a % 4 ≡ 0
-      → 1 ≤ two c.packet 64 → Laid c (Known (DumpSymbol (symbol_request_of c.packet)))
+      → 1 ≤ two c.packet 64 → Laid c (Some (DumpSymbol (symbol_request_of c.packet)))
   unfolding zero_rules
   by_name_laid v a symbol zeros reached below multiple some =
       let p = c.packet in
@@ -418,7 +418,7 @@ module _ (s : State) (c : CommandArgs) where
         range = rw (at_four p 60, at_two p 64) (ap not (and_both (and_both fits whole) (le-leb _ _ some)));
       }
 
-  pub by_name_in : ByNameAllowed s c → Tested s c (Known (DumpSymbol (symbol_request_of c.packet)))
+  pub by_name_in : ByNameAllowed s c → Tested s c (Some (DumpSymbol (symbol_request_of c.packet)))
   unfolding any_with any_idle
   by_name_in a =
       let named = range_by c.symbols (name_in c.packet) (symbol_request_of c.packet) in

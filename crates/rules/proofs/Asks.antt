@@ -1,5 +1,6 @@
 -- What a command asks for, by its function code.
 -- Assumes nothing.
+use Rattle.std.specs.Prelude.{Option}
 use mathlib.Core.Path.{◌≡◌, ap}
 use mathlib.Core.Logic.{◌≢◌}
 use Prim.Native.Nat.{ℕ}
@@ -15,14 +16,14 @@ use Rattle.rules.specs.Values.{Reached}
 use Rattle.rules.specs.Commands.{CommandArgs, task_of, task}
 use Rattle.rules.specs.Cases.{range_from}
 use Rattle.rules.specs.Demand3.{nothing, asked_by, asked, command, AskedIs}
-use Rattle.rules.specs.declared.Decoded.{Decoded}
 use Rattle.rules.specs.declared.Task.TheVariants.{DumpRange}
 use Rattle.rules.proofs.Allowed.{decode_dump, decode_cancel, decode_load, decode_pool, decode_value, decode_by_name, decode_other}
 use Rattle.rules.proofs.Offsets.{reached_is}
+use Rattle.rules.specs.declared.Command.{Command}
 
 module _ (c : CommandArgs) where
   -- the task of what a packet is decoded to
-  pub task_is : (d : Decoded) → decode c.packet ≡ d → task c ≡ task_of c.symbols (name_in c.packet) d
+  pub task_is : (d : Option Command) → decode c.packet ≡ d → task c ≡ task_of c.symbols (name_in c.packet) d
   unfolding task
   task_is d e = ap (task_of c.symbols (name_in c.packet)) e
 
@@ -35,7 +36,7 @@ module _ (c : CommandArgs) where
       rw (t, w, at_four c.packet 60, at_two c.packet 64, q)
 
   -- what a packet that is decoded so asks of the dump places
-  pub asks : (d : Decoded) → decode c.packet ≡ d
+  pub asks : (d : Option Command) → decode c.packet ≡ d
       → asked (command c) ≡ asked_by (command_transaction c.packet) (task_of c.symbols (name_in c.packet) d)
   asks d e = ap (asked_by (command_transaction c.packet)) (task_is d e)
 

@@ -1,5 +1,6 @@
 -- The rows of a command and of a slot apply exactly in the cases of the table of result numbers in logic.
 -- Assumes nothing.
+use Rattle.std.specs.Prelude.{Some}
 use mathlib.Core.Path.{◌≡◌, refl, ap}
 use mathlib.Core.Logic.{◌≢◌, ◌↔◌}
 use mathlib.Core.Bool.{Bool, true, false, ◌&&◌, ◌||◌, not}
@@ -24,7 +25,6 @@ use Rattle.rules.specs.Slots.{SlotArgs, slot_rows}
 use Rattle.rules.specs.Cases.{applies, one_of, range_of, LayoutCases, NumberFree, NumberBusy, PlaceFree, DumpCases, CancelCases, LoadCases, PoolCases, ValueCases, ByNameCases, CommandCases, SlotCases}
 use Rattle.rules.specs.declared.Command.{Command}
 use Rattle.rules.specs.declared.Command.TheVariants.{Dump, Cancel, Load, PoolStatistics, SymbolValue, DumpSymbol}
-use Rattle.rules.specs.declared.Decoded.TheVariants.{Known}
 use Rattle.rules.specs.declared.Range.{Range}
 use Rattle.rules.specs.declared.Region.{Region}
 use Rattle.rules.specs.declared.Task.TheVariants.{DumpRange}
@@ -182,7 +182,7 @@ module _ (rows : List Row) (p : List ℕ)
     (five : applies 5 rows ≡ (not (eqb (apid_of p) 1604) || false))
     (six : applies 6 rows ≡ (is_unknown (decode p) || false))
     (seven : applies 7 rows ≡ (wrong_length p (decode p) || false))
-    (nine : (k : Command) → decode p ≡ Known k → names_symbol (Known k) ≡ false → applies 9 rows ≡ (not (field_rules k) || false)) where
+    (nine : (k : Command) → decode p ≡ Some k → names_symbol (Some k) ≡ false → applies 9 rows ≡ (not (field_rules k) || false)) where
   pub layout_cases : LayoutCases rows p
   unfolding field_rules
   layout_cases =
@@ -204,7 +204,7 @@ module _ (rows : List Row) (p : List ℕ)
 
 module _ (s : State) (c : CommandArgs) where
   -- number 9 of a command that names no symbol: its second row never applies
-  fields_alone : (k : Command) → decode c.packet ≡ Known k → names_symbol (Known k) ≡ false
+  fields_alone : (k : Command) → decode c.packet ≡ Some k → names_symbol (Some k) ≡ false
       → applies 9 (command_rows s c) ≡ (not (field_rules k) || false)
   unfolding command_rows lent_rows
   fields_alone (Dump q) d n = rw d

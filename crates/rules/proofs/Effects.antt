@@ -1,5 +1,6 @@
 -- An accepted command does exactly what papers 01 and 02 (A2) say.
 -- Assumes nothing.
+use Rattle.std.specs.Prelude.{Option}
 use mathlib.Core.Path.{◌≡◌, refl, ap, ◌∙◌}
 use mathlib.Core.Bool.{true}
 use mathlib.Core.List.{List}
@@ -24,7 +25,6 @@ use Rattle.rules.specs.Commands.{CommandArgs, task_of, is_idle, first_idle, firs
 use Rattle.rules.specs.Demand2.{IsAccepted, OnePlace, DumpDone, CancelAllowed, CancelDone, LoadAllowed, LoadDone, PoolAllowed, PoolDone, TelemetryHeader, SymbolNamed, ValueDone, ByNameAllowed, ByNameDone, Effects}
 use Rattle.rules.specs.Cases.{range_of, range_from, pool_of, PlaceFree}
 use Rattle.rules.specs.declared.Context.{Context}
-use Rattle.rules.specs.declared.Decoded.{Decoded}
 use Rattle.rules.specs.declared.Place.{Place}
 use Rattle.rules.specs.declared.Range.{Range}
 use Rattle.rules.specs.declared.State.{State}
@@ -37,6 +37,7 @@ use Rattle.rules.proofs.Rules.{StartIs, start_out, pool_out as rules-pool}
 use Rattle.rules.proofs.Pools.{tiles_blocks, tiles_words, figures_fit, figures_are, reply_figures, reply_head, reply_pool}
 use Rattle.rules.proofs.Passed.{Passed, passed_out, accepted_call, tests_of}
 use Rattle.rules.proofs.Allowed.{decode_dump, decode_cancel, decode_load, decode_pool, decode_value, decode_by_name, dump_out, cancel_out, load_out, pool_out, value_out, by_name_out, value_named_lem, range_named, idle_out, idle_at, number_at}
+use Rattle.rules.specs.declared.Command.{Command}
 
 -- one place of four set
 one_place : (ps : List Place) (i : ℕ) (a : Context) → i < 4 → length ps ≡ 4 → OnePlace ps i (set_context ps i a)
@@ -80,8 +81,8 @@ module _ (s : State) (c : CommandArgs) (h : IsAccepted s c) where
   start : StartIs s.regions s.count s.pools s.unit
   start = start_out s.regions s.count s.pools s.unit good.rules
 
-  pub call_is : {d : Decoded} → decode c.packet ≡ d → command_call s c ≡ carry_out s c (task_of c.symbols (name_in c.packet) d)
-  call_is e = accepted_call s c h ∙ ap (λ (d : Decoded). carry_out s c (task_of c.symbols (name_in c.packet) d)) e
+  pub call_is : {d : (Option Command)} → decode c.packet ≡ d → command_call s c ≡ carry_out s c (task_of c.symbols (name_in c.packet) d)
+  call_is e = accepted_call s c h ∙ ap (λ (d : Option Command). carry_out s c (task_of c.symbols (name_in c.packet) d)) e
 
   dump_done : (r : Range) → PlaceFree s → DumpDone s c r (carry_out s c (DumpRange r))
   unfolding first_idle

@@ -1,5 +1,6 @@
 -- The rows of the ground's calls apply exactly in the cases that paper 01, and paper 02 in A2, name for them.
 -- Assumes nothing.
+use Rattle.std.specs.Prelude.{Some}
 use mathlib.Core.Path.{◌≡◌, refl, subst}
 use mathlib.Core.List.{List}
 use Prim.Native.Nat.{ℕ, ◌+◌, ◌*◌, ◌-◌, ◌/◌, ◌≤◌}
@@ -20,7 +21,6 @@ use Rattle.rules.specs.Cases.{applies, Passes, bytes_of, ReaderCases, WriterCase
 use Rattle.rules.specs.Ground.{header_rules, writer_rows, reader_rows, packet_fields, cut_rules, packet_rows}
 use Rattle.rules.specs.declared.Command.{Command}
 use Rattle.rules.specs.declared.Command.TheVariants.{Dump, Cancel, Load, PoolStatistics, SymbolValue, DumpSymbol}
-use Rattle.rules.specs.declared.Decoded.TheVariants.{Known}
 use Rattle.rules.specs.declared.DumpPacket.{DumpPacket}
 use Rattle.rules.specs.declared.Header.{Header}
 use Rattle.rules.proofs.Allowed.{decode_value, decode_by_name}
@@ -32,7 +32,7 @@ use Rattle.rules.proofs.WritesWhen.{fields_out, fields_in}
 
 module _ (p : List ℕ) where
   -- number 9 of a command that names no symbol: its packet has no bits that must be zero
-  fields_alone : (k : Command) → decode p ≡ Known k → names_symbol (Known k) ≡ false → applies 9 (reader_rows p) ≡ (not (field_rules k) || false)
+  fields_alone : (k : Command) → decode p ≡ Some k → names_symbol (Some k) ≡ false → applies 9 (reader_rows p) ≡ (not (field_rules k) || false)
   unfolding reader_rows zero_rules
   fields_alone (Dump q) d n = rw (d, and-true)
   fields_alone Cancel d n = rw (d, and-true)

@@ -1,5 +1,6 @@
 -- The command writer writes, and the command reader reads, exactly if each of their tests passes.
 -- Assumes nothing.
+use Rattle.std.specs.Prelude.{Option, Some, None, Result, Ok, Err}
 use mathlib.Core.Path.{◌≡◌, refl, ap, ◌∙◌}
 use mathlib.Core.Bool.{true, ◌&&◌, not}
 use mathlib.Core.List.{List, []}
@@ -15,17 +16,13 @@ use Rattle.rules.specs.Results.{answer_number, lowest}
 use Rattle.rules.specs.Demand2.{ForThisBox}
 use Rattle.rules.specs.Ground.{header_rules, writer_rows, conclude_write, write_command, reader_rows, fields_read, conclude_read, read_command}
 use Rattle.rules.specs.declared.Command.{Command}
-use Rattle.rules.specs.declared.Decoded.{Decoded}
-use Rattle.rules.specs.declared.Decoded.TheVariants.{Unknown, Known}
 use Rattle.rules.specs.declared.Header.{Header}
-use Rattle.rules.specs.declared.Reading.TheVariants.{Read}
 use Rattle.rules.specs.declared.State.{State}
 use Rattle.rules.specs.declared.Telecommand.{Telecommand}
-use Rattle.rules.specs.declared.Verdict.{Verdict}
-use Rattle.rules.specs.declared.Verdict.TheVariants.{Accepted, Rejected}
 use Rattle.rules.proofs.LowestNumber.{number_some}
 use Rattle.rules.proofs.Passed.{NoneApplies, lowest_none, none_lowest}
 use Rattle.rules.proofs.Allowed.{box_out, box_in}
+use Rattle.rules.specs.declared.Refusal.{Refusal}
 
 -- THE WRITER
 
@@ -61,15 +58,15 @@ module _ (h : Header) (k : Command) (ws buffer : List ℕ) where
       (le-ltb _ _ w.room, (ap not (and_both g w.fields), tt))
 
   -- an answer of 0 is no refusal
-  written : (v : Verdict) → answer_number (conclude_write h k ws buffer v).answer ≡ 0 → v ≡ Accepted
-  written Accepted e = refl
-  written (Rejected r) e = let l = number_some r in absurd (omega arith)
+  written : (v : Result (Unit {0}) Refusal) → answer_number (conclude_write h k ws buffer v).answer ≡ 0 → v ≡ (Ok tt)
+  written (Ok tt) e = refl
+  written (Err r) e = let l = number_some r in absurd (omega arith)
 
   pub writable_out : answer_number (write_command h k ws buffer).answer ≡ 0 → Writable h k buffer
   unfolding write_command
   writable_out e = rows_writable (lowest_none _ (written (lowest (writer_rows h k buffer)) e))
 
-  pub writable_in : Writable h k buffer → write_command h k ws buffer ≡ conclude_write h k ws buffer Accepted
+  pub writable_in : Writable h k buffer → write_command h k ws buffer ≡ conclude_write h k ws buffer (Ok tt)
   unfolding write_command
   writable_in w = ap (conclude_write h k ws buffer) (none_lowest _ (writable_rows w))
 
@@ -82,13 +79,13 @@ box_of p = fresh_state [] 0 [] (command_unit p)
 -- what the reader's tests say
 pub record Readable (p : List ℕ) (k : Command) : Type 0 where
   pub box : ForThisBox (box_of p) p
-  pub known : decode p ≡ Known k
+  pub known : decode p ≡ Some k
   pub bytes : length p ≡ packet_length k
   pub fields : field_rules k ≡ true
   pub zeros : zero_rules p k ≡ true
 
 module _ (p : List ℕ) where
-  rows_readable : (k : Command) → decode p ≡ Known k → NoneApplies (reader_rows p) → Readable p k
+  rows_readable : (k : Command) → decode p ≡ Some k → NoneApplies (reader_rows p) → Readable p k
   unfolding reader_rows
   rows_readable k e (shape, (apid, (known, (bytes, (fields, end))))) =
       let f = not-false _ (rw e at fields) in
@@ -108,22 +105,22 @@ module _ (p : List ℕ) where
         (ap not (eq-eqb _ _ r.box.apid), (refl, (ap not (eq-eqb _ _ r.bytes), (ap not (and_both r.fields r.zeros), tt)))),
       )
 
-  pub readable_in : (k : Command) → Readable p k → read_command p ≡ fields_read p (Known k)
+  pub readable_in : (k : Command) → Readable p k → read_command p ≡ fields_read p (Some k)
   unfolding read_command
   readable_in k r = ap (conclude_read p) (none_lowest _ (readable_rows k r)) ∙ ap (fields_read p) r.known
 
   module _ (h : Header) (k : Command) where
-    fields_out : (d : Decoded) → (fields_read p d).reading ≡ Read (record { header = h; command = k }) → (d ≡ Known k) × (header_at p 8 ≡ h)
-    fields_out Unknown e = let z : ◌≡◌ {A = ℕ} 0 1 = cc in absurd (omega arith)
-    fields_out (Known j) e =
+    fields_out : (d : Option Command) → (fields_read p d).reading ≡ Ok (record { header = h; command = k }) → (d ≡ Some k) × (header_at p 8 ≡ h)
+    fields_out None e = let z : ◌≡◌ {A = ℕ} 0 1 = cc in absurd (omega arith)
+    fields_out (Some j) e =
         let t : ◌≡◌ {A = Telecommand} (record { header = header_at p 8; command = j }) (record { header = h; command = k }) = cc in
-        (ap (λ (x : Telecommand). Known x.command) t, ap (λ (x : Telecommand). x.header) t)
+        (ap (λ (x : Telecommand). Some x.command) t, ap (λ (x : Telecommand). x.header) t)
 
-    verdict_out : (v : Verdict) → lowest (reader_rows p) ≡ v → (conclude_read p v).reading ≡ Read (record { header = h; command = k })
+    verdict_out : (v : Result (Unit {0}) Refusal) → lowest (reader_rows p) ≡ v → (conclude_read p v).reading ≡ Ok (record { header = h; command = k })
         → Readable p k × (header_at p 8 ≡ h)
-    verdict_out (Rejected r) v e = let z : ◌≡◌ {A = ℕ} 0 1 = cc in absurd (omega arith)
-    verdict_out Accepted v e = let (d, g) = fields_out (decode p) e in (rows_readable k d (lowest_none _ v), g)
+    verdict_out (Err r) v e = let z : ◌≡◌ {A = ℕ} 0 1 = cc in absurd (omega arith)
+    verdict_out (Ok tt) v e = let (d, g) = fields_out (decode p) e in (rows_readable k d (lowest_none _ v), g)
 
-    pub readable_out : (read_command p).reading ≡ Read (record { header = h; command = k }) → Readable p k × (header_at p 8 ≡ h)
+    pub readable_out : (read_command p).reading ≡ Ok (record { header = h; command = k }) → Readable p k × (header_at p 8 ≡ h)
     unfolding read_command
     readable_out e = verdict_out (lowest (reader_rows p)) refl e

@@ -1,5 +1,6 @@
 -- Every call of a good state is lawful and leaves a good state with its table and unit, by demand 2; the value of a symbol by what its call leaves.
 -- Assumes nothing.
+use Rattle.std.specs.Prelude.{Some, Result, Ok, Err}
 use mathlib.Core.Path.{◌≡◌, ◌∙◌, refl, ap, ap₂, sym}
 use mathlib.Core.Logic.{◌≢◌}
 use mathlib.Core.Bool.{true, false}
@@ -29,13 +30,10 @@ use Rattle.rules.specs.declared.Context.{Context}
 use Rattle.rules.specs.declared.Context.TheVariants.{Idle, Busy}
 use Rattle.rules.specs.declared.State.{State}
 use Rattle.rules.specs.declared.Command.TheVariants.{Dump, Cancel, Load, PoolStatistics, SymbolValue, DumpSymbol}
-use Rattle.rules.specs.declared.Decoded.TheVariants.{Known}
 use Rattle.rules.specs.declared.Task.{Task}
 use Rattle.rules.specs.declared.Task.TheVariants.{Nothing, DumpRange, CancelDump, LoadRange, CountPool, TellValue}
 use Rattle.rules.specs.declared.Refusal.{Refusal}
 use Rattle.rules.specs.declared.Refusal.TheVariants.{UnknownCode, PoolDamaged}
-use Rattle.rules.specs.declared.Verdict.{Verdict}
-use Rattle.rules.specs.declared.Verdict.TheVariants.{Accepted, Rejected}
 use Rattle.rules.proofs.Good.{GoodIs, good_out, busy_dump, context_past}
 use Rattle.rules.proofs.Passed.{passed_out}
 use Rattle.rules.proofs.Asks.{asks}
@@ -81,12 +79,12 @@ same_asked {t} {u} {r} {r'} e =
 
 -- what each function code is decoded to
 by_code : {C : Type 0} (p : List ℕ)
-    → (function_code_of p ≡ 0 → decode p ≡ Known (Dump (request_of p)) → C)
-    → (function_code_of p ≡ 1 → decode p ≡ Known Cancel → C)
-    → (function_code_of p ≡ 4 → decode p ≡ Known (Load (request_of p)) → C)
-    → (function_code_of p ≡ 7 → decode p ≡ Known (PoolStatistics (pool_of p)) → C)
-    → (decode p ≡ Known (SymbolValue (name_size_of p)) → C)
-    → (function_code_of p ≡ 9 → decode p ≡ Known (DumpSymbol (symbol_request_of p)) → C)
+    → (function_code_of p ≡ 0 → decode p ≡ Some (Dump (request_of p)) → C)
+    → (function_code_of p ≡ 1 → decode p ≡ Some Cancel → C)
+    → (function_code_of p ≡ 4 → decode p ≡ Some (Load (request_of p)) → C)
+    → (function_code_of p ≡ 7 → decode p ≡ Some (PoolStatistics (pool_of p)) → C)
+    → (decode p ≡ Some (SymbolValue (name_size_of p)) → C)
+    → (function_code_of p ≡ 9 → decode p ≡ Some (DumpSymbol (symbol_request_of p)) → C)
     → (function_code_of p ≢ 0 → function_code_of p ≢ 1 → function_code_of p ≢ 4 → function_code_of p ≢ 7
     → function_code_of p ≢ 8 → function_code_of p ≢ 9 → C)
     → C
@@ -159,9 +157,9 @@ refused_stays s c = concluded (lowest (command_rows s c))
     carried (CountPool i) n = pool i (blocks_of (pool_words s i c.image)) n
     carried (TellValue v) n = absurd (n refl)
 
-    concluded : (v : Verdict) → answer_number (conclude s c v).answer ≢ 0 → AllStays s (conclude s c v).state
-    concluded (Rejected r) n = refusal r
-    concluded Accepted n = carried (task c) n
+    concluded : (v : Result (Unit {0}) Refusal) → answer_number (conclude s c v).answer ≢ 0 → AllStays s (conclude s c v).state
+    concluded (Err r) n = refusal r
+    concluded (Ok tt) n = carried (task c) n
 
 command_counts_none : (s : State) (c : CommandArgs) → counts (made s (command c)) ≡ false
 unfolding counts
@@ -185,9 +183,9 @@ slot_refused s c = concluded (lowest (slot_rows s c))
     turned p Idle n = refl
     turned p (Busy d) n = absurd (n refl)
 
-    concluded : (v : Verdict) → answer_number (conclude_slot s c v).answer ≢ 0 → (conclude_slot s c v).state ≡ s
-    concluded (Rejected r) n = refl
-    concluded Accepted n = turned (next_place s.places s.last) (context_at s.places (next_place s.places s.last)) n
+    concluded : (v : Result (Unit {0}) Refusal) → answer_number (conclude_slot s c v).answer ≢ 0 → (conclude_slot s c v).state ≡ s
+    concluded (Err r) n = refl
+    concluded (Ok tt) n = turned (next_place s.places s.last) (context_at s.places (next_place s.places s.last)) n
 
 -- what is lent to a slot that answers 0 is right
 pub slot_lent : (s : State) (c : SlotArgs) → good_state s ≡ true → answer_number (slot_call s c).answer ≡ 0
@@ -264,19 +262,19 @@ module _ (D : Demand2) (s : State) (good : good_state s ≡ true) where
           (λ u q e. same_asked (sym a ∙ e.command)) (seen_command s c (dump t r) h a) (command_counts_none s c))
           y
 
-      lawful_dump : function_code_of c.packet ≡ 0 → decode c.packet ≡ Known (Dump (request_of c.packet)) → Lawful s (command c)
+      lawful_dump : function_code_of c.packet ≡ 0 → decode c.packet ≡ Some (Dump (request_of c.packet)) → Lawful s (command c)
       lawful_dump k e =
           let a = ((may.dump k).0 h).1 in
           lawful_range (range_of c.packet) ((D.effects s c h).dump k) a.number a.some (asks c _ e)
 
-      lawful_by_name : function_code_of c.packet ≡ 9 → decode c.packet ≡ Known (DumpSymbol (symbol_request_of c.packet)) → Lawful s (command c)
+      lawful_by_name : function_code_of c.packet ≡ 9 → decode c.packet ≡ Some (DumpSymbol (symbol_request_of c.packet)) → Lawful s (command c)
       lawful_by_name k e =
           let a = ((may.by_name k bytes).0 h).1 in
           let x = (D.effects s c h).by_name k bytes in
           lawful_range (range_from c.packet x.a) x.dump a.number a.some
           (asks c _ e ∙ ap (dump (command_transaction c.packet)) (range_named s c x.symbol x.reached))
 
-      lawful_cancel : function_code_of c.packet ≡ 1 → decode c.packet ≡ Known Cancel → Lawful s (command c)
+      lawful_cancel : function_code_of c.packet ≡ 1 → decode c.packet ≡ Some Cancel → Lawful s (command c)
       lawful_cancel k e =
           let x : CancelDone s c (command_call s c) = (D.effects s c h).cancel k in
           let b = busy_dump (command_transaction c.packet) (context_at s.places x.i) x.busy in
@@ -292,14 +290,14 @@ module _ (D : Demand2) (s : State) (good : good_state s ≡ true) where
           → Lawful s (command c)
       lawful_still x a = lawful_kept (ap (λ (z : State). z.places) x) (after_stays s x) (seen_command s c nothing h a)
 
-      lawful_load : function_code_of c.packet ≡ 4 → decode c.packet ≡ Known (Load (request_of c.packet)) → Lawful s (command c)
+      lawful_load : function_code_of c.packet ≡ 4 → decode c.packet ≡ Some (Load (request_of c.packet)) → Lawful s (command c)
       lawful_load k e = lawful_still ((D.effects s c h).load k).state (asks c _ e)
 
-      lawful_pool : function_code_of c.packet ≡ 7 → decode c.packet ≡ Known (PoolStatistics (pool_of c.packet)) → Lawful s (command c)
+      lawful_pool : function_code_of c.packet ≡ 7 → decode c.packet ≡ Some (PoolStatistics (pool_of c.packet)) → Lawful s (command c)
       lawful_pool k e = lawful_still ((D.effects s c h).pool k).state (asks c _ e)
 
       -- the value of a symbol, whatever the table's bytes are
-      lawful_value : decode c.packet ≡ Known (SymbolValue (name_size_of c.packet)) → Lawful s (command c)
+      lawful_value : decode c.packet ≡ Some (SymbolValue (name_size_of c.packet)) → Lawful s (command c)
       lawful_value e = lawful_still (ap (λ (o : Outcome). o.state) (call_is s c h e)) (asks c _ e)
 
     lawful_command : Lawful s (command c)

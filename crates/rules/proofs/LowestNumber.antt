@@ -1,5 +1,6 @@
 -- The result numbers: the first row that applies, and that where the rows ascend in some order its number is the lowest in it that applies.
 -- Assumes nothing.
+use Rattle.std.specs.Prelude.{Result, Ok, Err}
 use mathlib.Core.Path.{◌≡◌, refl, sym, ap, subst⁻¹, ◌∙◌}
 use mathlib.Core.Bool.{Bool, true, false, ◌&&◌, ◌||◌, cond}
 use mathlib.Core.List.{List, [], ◌∷◌}
@@ -14,8 +15,6 @@ use Rattle.rules.specs.Demand1.{numbers_of, LowestBy, FirstAt, First}
 use Rattle.rules.specs.Cases.{applies, applies_at}
 use Rattle.rules.specs.declared.Refusal.{Refusal}
 use Rattle.rules.specs.declared.Refusal.TheVariants.{BadState, ImageLength, BufferLength, Malformed, OtherApid, UnknownCode, PacketLength, OtherUnit, BadField, OutsideRegions, NoRight, TransactionBusy, PlacesBusy, NotBusy, PoolDamaged, NothingToSend, BadTable, UnknownSymbol, RunsOut}
-use Rattle.rules.specs.declared.Verdict.{Verdict}
-use Rattle.rules.specs.declared.Verdict.TheVariants.{Accepted, Rejected}
 
 -- EACH REFUSAL
 
@@ -49,7 +48,7 @@ applies_after : (r : Row) (rs : List Row) → r.applies ≡ false → (i : ℕ) 
 applies_after r rs a i = either (eqb (number r.refusal) i) (λ e. rw (e, a)) (λ e. rw e)
 
 -- a row that applies gives its refusal, and one that does not is passed over
-lowest_here : (r : Row) (rs : List Row) → r.applies ≡ true → lowest (r ∷ rs) ≡ Rejected r.refusal
+lowest_here : (r : Row) (rs : List Row) → r.applies ≡ true → lowest (r ∷ rs) ≡ Err r.refusal
 unfolding lowest
 lowest_here r rs a = rw a
 
@@ -75,16 +74,16 @@ module _ (order : ℕ → ℕ) (apart : (i j : ℕ) → order i ≡ order j → 
       (none_below (order n) rs (and_right (ltb m (order n)) (ascends (order n) (numbers_of rs)) h) i (omega arith))
 
   -- what a verdict that is the lowest number says of the rows
-  abbrev Says : List Row → Verdict → Type 0
-  Says rows Accepted = (i : ℕ) → applies i rows ≡ false
-  Says rows (Rejected r) = (applies (number r) rows ≡ true) × ((i : ℕ) → order i < order (number r) → applies i rows ≡ false)
+  abbrev Says : List Row → Result (Unit {0}) Refusal → Type 0
+  Says rows (Ok tt) = (i : ℕ) → applies i rows ≡ false
+  Says rows (Err r) = (applies (number r) rows ≡ true) × ((i : ℕ) → order i < order (number r) → applies i rows ≡ false)
 
-  says_after : (r : Row) (rs : List Row) → r.applies ≡ false → (v : Verdict) → Says rs v → Says (r ∷ rs) v
-  says_after r rs a Accepted f = λ i. applies_after r rs a i ∙ f i
-  says_after r rs a (Rejected x) f = (applies_after r rs a (number x) ∙ f.0, λ i l. applies_after r rs a i ∙ f.1 i l)
+  says_after : (r : Row) (rs : List Row) → r.applies ≡ false → (v : Result (Unit {0}) Refusal) → Says rs v → Says (r ∷ rs) v
+  says_after r rs a (Ok tt) f = λ i. applies_after r rs a i ∙ f i
+  says_after r rs a (Err x) f = (applies_after r rs a (number x) ∙ f.0, λ i l. applies_after r rs a i ∙ f.1 i l)
 
   says_here : (r : Row) (rs : List Row) → r.applies ≡ true → ascends (order (number r.refusal)) (numbers_of rs) ≡ true
-      → Says (r ∷ rs) (Rejected r.refusal)
+      → Says (r ∷ rs) (Err r.refusal)
   says_here r rs a h =
       let n : ℕ = number r.refusal in (
         rw (eq-eqb n n refl, a),
@@ -101,10 +100,10 @@ module _ (order : ℕ → ℕ) (apart : (i j : ℕ) → order i ≡ order j → 
       (λ a. subst⁻¹ (Says (r ∷ rs)) (lowest_here r rs a) (says_here r rs a k))
       (λ a. subst⁻¹ (Says (r ∷ rs)) (lowest_after r rs a) (says_after r rs a (lowest rs) (lowest_says n rs k)))
 
-  lowest_of : (rows : List Row) (v : Verdict) → Says rows v → LowestBy order rows (verdict_number v)
-  lowest_of rows Accepted f =
+  lowest_of : (rows : List Row) (v : Result (Unit {0}) Refusal) → Says rows v → LowestBy order rows (verdict_number v)
+  lowest_of rows (Ok tt) f =
       record { refused = λ j l. (λ e. absurd (omega arith), λ h. absurd (contra h.0 (f j))); done = (λ e. f, λ g. refl) }
-  lowest_of rows (Rejected r) f =
+  lowest_of rows (Err r) f =
       record {
         refused = λ j l. (
           λ e. rw e at f,
@@ -118,7 +117,7 @@ module _ (order : ℕ → ℕ) (apart : (i j : ℕ) → order i ≡ order j → 
       }
 
   -- the first row that applies gives the lowest number that does
-  pub lowest_number : (rows : List Row) → ascends 0 (numbers_of rows) ≡ true → (v : Verdict) → lowest rows ≡ v → LowestBy order rows (verdict_number v)
+  pub lowest_number : (rows : List Row) → ascends 0 (numbers_of rows) ≡ true → (v : Result (Unit {0}) Refusal) → lowest rows ≡ v → LowestBy order rows (verdict_number v)
   lowest_number rows up v e = lowest_of rows v (rw e at (lowest_says 0 rows up))
 
 -- A ROW THAT DOES NOT APPLY can be left out
@@ -138,7 +137,7 @@ without_lowest : (n : ℕ) (rows : List Row) → applies_at n rows ≡ false →
 unfolding lowest
 without_lowest n [] h = refl
 without_lowest zero (r ∷ rs) h = lowest_after r rs h
-without_lowest (suc n) (r ∷ rs) h = ap (cond r.applies (Rejected r.refusal)) (without_lowest n rs h)
+without_lowest (suc n) (r ∷ rs) h = ap (cond r.applies (Err r.refusal)) (without_lowest n rs h)
 
 -- the first row that applies has the lowest number if it has without that row
 pub lowest_without : {order : ℕ → ℕ} (n : ℕ) (rows : List Row) → applies_at n rows ≡ false
@@ -156,9 +155,9 @@ lowest_without n rows h l =
 -- THE FIRST ROW, whatever the order of the numbers
 
 -- what a verdict says of the places of the rows
-abbrev SaysAt : List Row → Verdict → Type 0
-SaysAt rows Accepted = (i : ℕ) → applies_at i rows ≡ false
-SaysAt rows (Rejected r) = (i : ℕ) × FirstAt rows i (number r)
+abbrev SaysAt : List Row → Result (Unit {0}) Refusal → Type 0
+SaysAt rows (Ok tt) = (i : ℕ) → applies_at i rows ≡ false
+SaysAt rows (Err r) = (i : ℕ) × FirstAt rows i (number r)
 
 -- where neither a row nor the first i rows after it apply, none does up to there
 none_to : (r : Row) (rs : List Row) → r.applies ≡ false → (i : ℕ) → ((j : ℕ) → j < i → applies_at j rs ≡ false)
@@ -166,9 +165,9 @@ none_to : (r : Row) (rs : List Row) → r.applies ≡ false → (i : ℕ) → ((
 none_to r rs a i f zero l = a
 none_to r rs a i f (suc j) l = f j (omega arith)
 
-says_at_after : (r : Row) (rs : List Row) → r.applies ≡ false → (v : Verdict) → SaysAt rs v → SaysAt (r ∷ rs) v
-says_at_after r rs a Accepted f = λ i. none_to r rs a i (λ j l. f j) i (omega arith)
-says_at_after r rs a (Rejected x) (i, f) =
+says_at_after : (r : Row) (rs : List Row) → r.applies ≡ false → (v : Result (Unit {0}) Refusal) → SaysAt rs v → SaysAt (r ∷ rs) v
+says_at_after r rs a (Ok tt) f = λ i. none_to r rs a i (λ j l. f j) i (omega arith)
+says_at_after r rs a (Err x) (i, f) =
     (suc i, record { number = f.number; there = f.there; none_before = none_to r rs a i f.none_before })
 
 first_says : (rows : List Row) → SaysAt rows (lowest rows)
@@ -187,16 +186,16 @@ first_one rows i j m n f g =
     (λ l. absurd (contra g.there (f.none_before j l)))
     (λ e. sym f.number ∙ ap (λ (k : ℕ). get_or (numbers_of rows) k 0) e ∙ g.number)
 
-first_of : (rows : List Row) (v : Verdict) → SaysAt rows v → First rows (verdict_number v)
-first_of rows Accepted f =
+first_of : (rows : List Row) (v : Result (Unit {0}) Refusal) → SaysAt rows v → First rows (verdict_number v)
+first_of rows (Ok tt) f =
     record { refused = λ j l. (λ e. absurd (omega arith), λ h. absurd (contra h.1.there (f h.0))); done = (λ e. f, λ g. refl) }
-first_of rows (Rejected r) f =
+first_of rows (Err r) f =
     record {
       refused = λ j l. (λ e. rw e at f, λ h. first_one rows f.0 h.0 (number r) j f.1 h.1);
       done = (λ e. let z : 0 < number r = number_some r in absurd (omega arith), λ g. absurd (contra f.1.there (g f.0)));
     }
 
-pub first_number : (rows : List Row) (v : Verdict) → lowest rows ≡ v → First rows (verdict_number v)
+pub first_number : (rows : List Row) (v : Result (Unit {0}) Refusal) → lowest rows ≡ v → First rows (verdict_number v)
 first_number rows v e = first_of rows v (rw e at (first_says rows))
 
 -- ROWS OF WHICH NONE APPLIES
@@ -207,7 +206,7 @@ test_of k [] = false
 test_of k (r ∷ rs) = cond (eqb (number r.refusal) k) r.applies (test_of k rs)
 
 -- where none applies each test says so
-pub test_passed : (rows : List Row) → lowest rows ≡ Accepted → (k : ℕ) → test_of k rows ≡ false
+pub test_passed : (rows : List Row) → lowest rows ≡ (Ok tt) → (k : ℕ) → test_of k rows ≡ false
 test_passed [] e k = refl
 test_passed (r ∷ rs) e k =
     either r.applies

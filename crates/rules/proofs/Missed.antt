@@ -1,5 +1,6 @@
 -- How a range missed, by the number that its command is answered.
 -- Assumes nothing.
+use Rattle.std.specs.Prelude.{Option}
 use mathlib.Core.Path.{◌≡◌, refl, sym, ap, ◌∙◌}
 use mathlib.Core.Logic.{◌≢◌, ◌↔◌}
 use mathlib.Core.Bool.{Bool, true, false, not}
@@ -19,7 +20,6 @@ use Rattle.rules.specs.Cases.{one_of, range_of, range_from, pool_of}
 use Rattle.rules.specs.Commands.{CommandArgs, task, outside, past_end, command_rows, command_call}
 use Rattle.rules.specs.Demand1.{numbers_of}
 use Rattle.rules.specs.Demand2.{ForThisBox, MissedWhen, Misses}
-use Rattle.rules.specs.declared.Decoded.{Decoded}
 use Rattle.rules.specs.declared.Range.{Range}
 use Rattle.rules.specs.declared.Refusal.TheVariants.{OutsideRegions, RunsOut}
 use Rattle.rules.specs.declared.Region.{Region}
@@ -32,6 +32,7 @@ use Rattle.rules.proofs.Good.{good_out}
 use Rattle.rules.proofs.Passed.{Laid, opened, lowest_past, answer_number_lem}
 use Rattle.rules.proofs.Rules.{start_out}
 use Rattle.rules.proofs.Table.{one_in, starts_in, held_there}
+use Rattle.rules.specs.declared.Command.{Command}
 
 -- TWO ROWS, AND THOSE AFTER THEM
 
@@ -73,7 +74,7 @@ module _ (b d : Bool) (rows : List Row) (no-ten : one_of 10 (numbers_of rows) �
 module _ (s : State) (c : CommandArgs) (good : good_state s ≡ true) (image : length c.image ≡ image_length s.regions s.count)
     (reply : 32 ≤ length c.reply) (box : ForThisBox s c.packet) where
   -- its number, by its task
-  number_by : (d : Decoded) → decode c.packet ≡ d → Laid c d → (k : Task) → task c ≡ k
+  number_by : (d : Option Command) → decode c.packet ≡ d → Laid c d → (k : Task) → task c ≡ k
       → answer_number (command_call s c).answer ≡ given (outside s k) (past_end s k) (drop 14 (command_rows s c))
   unfolding command_rows lent_rows
   number_by d e laid k t =

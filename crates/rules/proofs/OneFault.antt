@@ -1,5 +1,6 @@
 -- A packet that is accepted, with one thing changed, gets the number of that thing.
 -- Assumes nothing.
+use Rattle.std.specs.Prelude.{Option, Some, None, Result, Ok, Err}
 use mathlib.Core.Path.{◌≡◌, refl, sym, ap, ◌∙◌}
 use mathlib.Core.Logic.{◌≢◌, inl, inr, ⊎_elim}
 use mathlib.Core.Bool.{Bool, true, false, not, ◌&&◌}
@@ -27,13 +28,9 @@ use Rattle.rules.specs.Ground.{unreadable, reader_rows, reading_number, fields_r
 use Rattle.rules.specs.OneFault.{OtherApid, OtherCode, OtherLength, OtherUnit, Same, LayoutSpoiled, call_with, Gets, CommandFault, number_read, ReaderFault, number_given, TelemetrySpoiled, ButFour, PacketFault, OneFault}
 use Rattle.rules.specs.declared.Command.{Command}
 use Rattle.rules.specs.declared.Command.TheVariants.{Dump, Cancel, Load, PoolStatistics, SymbolValue, DumpSymbol}
-use Rattle.rules.specs.declared.Decoded.{Decoded}
-use Rattle.rules.specs.declared.Decoded.TheVariants.{Unknown, Known}
 use Rattle.rules.specs.declared.Refusal.{Refusal}
 use Rattle.rules.specs.declared.Refusal.TheVariants as refusal
 use Rattle.rules.specs.declared.State.{State}
-use Rattle.rules.specs.declared.Verdict.{Verdict}
-use Rattle.rules.specs.declared.Verdict.TheVariants.{Accepted, Rejected}
 use Rattle.rules.proofs.LowestNumber.{number_some}
 use Rattle.rules.proofs.Passed.{NoneApplies, lowest_none, none_lowest, lowest_past, passed_out}
 use Rattle.rules.proofs.Allowed.{formed_out, formed_in, decode_other}
@@ -43,7 +40,7 @@ use Rattle.rules.proofs.PlainBytes.{plain_bytes}
 -- ROWS
 
 -- a row that applies gives its refusal
-row_applies : (r : Refusal) (b : Bool) (rows : List Row) → b ≡ true → lowest (row r b ∷ rows) ≡ Rejected r
+row_applies : (r : Refusal) (b : Bool) (rows : List Row) → b ≡ true → lowest (row r b ∷ rows) ≡ Err r
 unfolding lowest
 row_applies r b rows e = rw e
 
@@ -54,9 +51,9 @@ fails b f = either b (λ e. absurd (f e)) (λ e. e)
 -- THE COMMAND OF A CODE
 
 -- the packet bytes of a command, and 0 of none
-abbrev length_for : Decoded → ℕ
-length_for Unknown = 0
-length_for (Known k) = packet_length k
+abbrev length_for : Option Command → ℕ
+length_for None = 0
+length_for (Some k) = packet_length k
 
 -- a command has 10 bytes or more, so that a known one is one of 10 bytes or more
 command_least : (k : Command) → 10 ≤ packet_length k
@@ -67,26 +64,26 @@ command_least (PoolStatistics i) = omega arith
 command_least (SymbolValue n) = omega arith
 command_least (DumpSymbol q) = omega arith
 
-known_least : (d : Decoded) → is_unknown d ≡ false → 10 ≤ length_for d
-known_least Unknown e = absurd (contra refl e)
-known_least (Known k) e = command_least k
+known_least : (d : Option Command) → is_unknown d ≡ false → 10 ≤ length_for d
+known_least None e = absurd (contra refl e)
+known_least (Some k) e = command_least k
 
-least_known : (d : Decoded) → 10 ≤ length_for d → is_unknown d ≡ false
-least_known Unknown l = absurd (omega arith)
-least_known (Known k) l = refl
+least_known : (d : Option Command) → 10 ≤ length_for d → is_unknown d ≡ false
+least_known None l = absurd (omega arith)
+least_known (Some k) l = refl
 
 -- number 7 passes if the length is that of the command, and fails if it is not
-length_passed : (p : List ℕ) (d : Decoded) → is_unknown d ≡ false → wrong_length p d ≡ false → length p ≡ length_for d
-length_passed p Unknown k e = absurd (contra refl k)
-length_passed p (Known j) k e = eqb-true _ _ (not-false _ e)
+length_passed : (p : List ℕ) (d : Option Command) → is_unknown d ≡ false → wrong_length p d ≡ false → length p ≡ length_for d
+length_passed p None k e = absurd (contra refl k)
+length_passed p (Some j) k e = eqb-true _ _ (not-false _ e)
 
-length_passes : (p : List ℕ) (d : Decoded) → length p ≡ length_for d → wrong_length p d ≡ false
-length_passes p Unknown e = refl
-length_passes p (Known k) e = ap not (eq-eqb _ _ e)
+length_passes : (p : List ℕ) (d : Option Command) → length p ≡ length_for d → wrong_length p d ≡ false
+length_passes p None e = refl
+length_passes p (Some k) e = ap not (eq-eqb _ _ e)
 
-length_fails : (p : List ℕ) (d : Decoded) → 10 ≤ length_for d → length p ≢ length_for d → wrong_length p d ≡ true
-length_fails p Unknown l n = absurd (omega arith)
-length_fails p (Known k) l n = ap not (ne_eqb _ _ n)
+length_fails : (p : List ℕ) (d : Option Command) → 10 ≤ length_for d → length p ≢ length_for d → wrong_length p d ≡ true
+length_fails p None l n = absurd (omega arith)
+length_fails p (Some k) l n = ap not (ne_eqb _ _ n)
 
 -- packets with the same byte 6 have commands of the same length
 same_length_for : (p q : List ℕ) → byte q 6 ≡ byte p 6 → length_for (decode q) ≡ length_for (decode p)
@@ -283,20 +280,20 @@ module _ (p : List ℕ) (b : AreBytes p) where
 
   module _ (rest : List Row) where
     -- the first of them that fails gives its number
-    shape_refused : (Shaped p → ⊥) → lowest (tests p rest) ≡ Rejected refusal.Malformed
+    shape_refused : (Shaped p → ⊥) → lowest (tests p rest) ≡ Err refusal.Malformed
     shape_refused n = row_applies _ _ _ (ap not (fails (well_formed p) (λ e. n (shaped_out p b e))))
 
-    apid_refused : Shaped p → apid_in p ≢ 1604 → lowest (tests p rest) ≡ Rejected refusal.OtherApid
+    apid_refused : Shaped p → apid_in p ≢ 1604 → lowest (tests p rest) ≡ Err refusal.OtherApid
     apid_refused s n =
         lowest_past 1 (tests p rest) (ap not (shaped_in p b s), tt)
         ∙ row_applies _ _ _ (ap not (ne_eqb _ _ (λ e. n (sym (apid_is p b) ∙ e))))
 
-    code_refused : Shaped p → apid_in p ≡ 1604 → decode p ≡ Unknown → lowest (tests p rest) ≡ Rejected refusal.UnknownCode
+    code_refused : Shaped p → apid_in p ≡ 1604 → decode p ≡ None → lowest (tests p rest) ≡ Err refusal.UnknownCode
     code_refused s a u =
         lowest_past 2 (tests p rest) (ap not (shaped_in p b s), (ap not (apid_test a), tt)) ∙ row_applies _ _ _ (ap is_unknown u)
 
     length_refused : Shaped p → apid_in p ≡ 1604 → 10 ≤ length_for (decode p) → length p ≢ length_for (decode p)
-        → lowest (tests p rest) ≡ Rejected refusal.PacketLength
+        → lowest (tests p rest) ≡ Err refusal.PacketLength
     length_refused s a k n =
         lowest_past 3 (tests p rest) (ap not (shaped_in p b s), (ap not (apid_test a), (least_known (decode p) k, tt)))
         ∙ row_applies _ _ _ (length_fails p (decode p) k n)
@@ -344,7 +341,7 @@ module _ (p q : List ℕ) (b : AreBytes q) (r : Right p) where
 
   -- each change is found by its own test
   apid_fault : (rest : List Row) → OtherApid p q → ((i : ℕ) → i ≢ 0 → i ≢ 1 → i ≢ 7 → Same p q i) → xor_all q ≡ 255
-      → lowest (tests q rest) ≡ Rejected refusal.OtherApid
+      → lowest (tests q rest) ≡ Err refusal.OtherApid
   apid_fault rest o same x =
       let l = eight in
       let m = o.as_long in
@@ -353,7 +350,7 @@ module _ (p q : List ℕ) (b : AreBytes q) (r : Right p) where
       apid_refused q b rest (record { frame = frame; zero_bit = zero_bit_stays code; check = x }) (λ h. o.apid (h ∙ sym r.apid))
 
   code_fault : (rest : List Row) → OtherCode p q → ((i : ℕ) → i ≢ 6 → i ≢ 7 → Same p q i) → xor_all q ≡ 255
-      → lowest (tests q rest) ≡ Rejected refusal.UnknownCode
+      → lowest (tests q rest) ≡ Err refusal.UnknownCode
   code_fault rest o same x =
       let s = o.seven_bits in
       let e : byte q 6 ≡ byte q 6 % 128 = omega arith in
@@ -363,7 +360,7 @@ module _ (p q : List ℕ) (b : AreBytes q) (r : Right p) where
       (decode_other q (λ h. n₀ (e ∙ h)) (λ h. n₁ (e ∙ h)) (λ h. n₄ (e ∙ h)) (λ h. n₇ (e ∙ h)) (λ h. n₈ (e ∙ h)) (λ h. n₉ (e ∙ h)))
 
   bytes_fault : (rest : List Row) → OtherLength p q → ((i : ℕ) → i ≢ 4 → i ≢ 5 → i ≢ 7 → Same p q i) → xor_all q ≡ 255
-      → lowest (tests q rest) ≡ Rejected refusal.PacketLength
+      → lowest (tests q rest) ≡ Err refusal.PacketLength
   bytes_fault rest o same x =
       let k = r.known in
       let g = r.bytes in
@@ -389,7 +386,7 @@ module _ (p q : List ℕ) (b : AreBytes q) (r : Right p) where
       }
 
   check_fault : (rest : List Row) → length q ≡ length p → byte q 7 ≢ byte p 7 → ((i : ℕ) → i ≢ 7 → Same p q i)
-      → lowest (tests q rest) ≡ Rejected refusal.Malformed
+      → lowest (tests q rest) ≡ Err refusal.Malformed
   check_fault rest l n same = shape_refused q b rest (λ s. check_changed p q eight l same n r.shape.check s.check)
 
 -- THE COMMAND CALL
@@ -404,7 +401,7 @@ module _ (s : State) (c : CommandArgs) (q : List ℕ) (h : answer_number (comman
   lent_passes = let p = passed_out s c h in (ap not p.good, (ap not (eq-eqb _ _ p.image), (le-ltb _ _ p.reply, tt)))
 
   -- a call whose first row that applies is r gets its number, and image and reply stay
-  gets : (r : Refusal) → lowest (tests q (drop 7 (command_rows s other))) ≡ Rejected r → Gets s c q (number r) (refused_command s c r).state
+  gets : (r : Refusal) → lowest (tests q (drop 7 (command_rows s other))) ≡ Err r → Gets s c q (number r) (refused_command s c r).state
   unfolding command_call command_rows lent_rows
   gets r e =
       let call : call_with s c q ≡ refused_command s other r = ap (conclude s other) (lowest_past 3 (command_rows s other) lent_passes ∙ e) in
@@ -416,7 +413,7 @@ module _ (s : State) (c : CommandArgs) (q : List ℕ) (h : answer_number (comman
       }
 
   -- the row after the shared tests is that of the unit
-  unit_refused : command_unit q ≢ s.unit → lowest (drop 7 (command_rows s other)) ≡ Rejected refusal.OtherUnit
+  unit_refused : command_unit q ≢ s.unit → lowest (drop 7 (command_rows s other)) ≡ Err refusal.OtherUnit
   unfolding command_rows lent_rows
   unit_refused n = row_applies _ _ _ (ap not (ne_eqb _ _ n))
 
@@ -440,9 +437,9 @@ module _ (s : State) (c : CommandArgs) (q : List ℕ) (h : answer_number (comman
 -- THE COMMAND READER
 
 -- an answer of 0 is no refusal
-read_concluded : (p : List ℕ) (v : Verdict) → reading_number (conclude_read p v).reading ≡ 0 → v ≡ Accepted
-read_concluded p Accepted h = refl
-read_concluded p (Rejected r) h = let l = number_some r in absurd (omega arith)
+read_concluded : (p : List ℕ) (v : Result (Unit {0}) Refusal) → reading_number (conclude_read p v).reading ≡ 0 → v ≡ (Ok tt)
+read_concluded p (Ok tt) h = refl
+read_concluded p (Err r) h = let l = number_some r in absurd (omega arith)
 
 -- none of the rows of a packet that is read applies
 read_passed : (p : List ℕ) → number_read p ≡ 0 → NoneApplies (reader_rows p)
@@ -450,21 +447,21 @@ unfolding read_command
 read_passed p h = lowest_none (reader_rows p) (read_concluded p (lowest (reader_rows p)) h)
 
 -- its number is that of the first row that applies
-read_refused : (q : List ℕ) (r : Refusal) → lowest (tests q (drop 4 (reader_rows q))) ≡ Rejected r → number_read q ≡ number r
+read_refused : (q : List ℕ) (r : Refusal) → lowest (tests q (drop 4 (reader_rows q))) ≡ Err r → number_read q ≡ number r
 unfolding read_command reader_rows
-read_refused q r e = ap (λ (v : Verdict). reading_number (conclude_read q v).reading) e
+read_refused q r e = ap (λ (v : Result (Unit {0}) Refusal). reading_number (conclude_read q v).reading) e
 
 -- a known command is read
-known_read : (q : List ℕ) (d : Decoded) → 10 ≤ length_for d → reading_number (fields_read q d).reading ≡ 0
-known_read q Unknown l = absurd (omega arith)
-known_read q (Known k) l = refl
+known_read : (q : List ℕ) (d : Option Command) → 10 ≤ length_for d → reading_number (fields_read q d).reading ≡ 0
+known_read q None l = absurd (omega arith)
+known_read q (Some k) l = refl
 
 -- a right packet whose fields pass is read
 read_accepted : (q : List ℕ) → AreBytes q → Right q → unreadable q (decode q) ≡ false → number_read q ≡ 0
 unfolding read_command reader_rows
 read_accepted q b r u =
     let rest : List Row = drop 4 (reader_rows q) in
-    ap (λ (v : Verdict). reading_number (conclude_read q v).reading) (tests_pass q b rest r ∙ none_lowest rest (u, tt))
+    ap (λ (v : Result (Unit {0}) Refusal). reading_number (conclude_read q v).reading) (tests_pass q b rest r ∙ none_lowest rest (u, tt))
     ∙ known_read q (decode q) r.known
 
 -- packets with the same byte 6 and the same bytes from byte 9 on have the same command, and pass number 9 alike
@@ -497,9 +494,9 @@ module _ (p q : List ℕ) (code : byte q 6 ≡ byte p 6) (after : (i : ℕ) → 
   zeros_alike (SymbolValue n) = rw (after 11 (omega arith))
   zeros_alike (DumpSymbol r) = rw (after 11 (omega arith), after 66 (omega arith), after 67 (omega arith))
 
-  unreadable_alike : (d : Decoded) → unreadable q d ≡ unreadable p d
-  unreadable_alike Unknown = refl
-  unreadable_alike (Known k) = rw (zeros_alike k)
+  unreadable_alike : (d : Option Command) → unreadable q d ≡ unreadable p d
+  unreadable_alike None = refl
+  unreadable_alike (Some k) = rw (zeros_alike k)
 
   readable_alike : unreadable p (decode p) ≡ false → unreadable q (decode q) ≡ false
   readable_alike u = ap (unreadable q) decode_alike ∙ unreadable_alike (decode p) ∙ u
@@ -612,39 +609,39 @@ module _ (p : List ℕ) (b : AreBytes p) where
       and_both (and_both (le-leb _ _ some) (le-leb _ _ most)) (eq-eqb _ _ bytes)
 
   -- or the first that fails is given
-  packet_malformed : (Framed 28 0 p → ⊥) → lowest (packet_rows p) ≡ Rejected refusal.Malformed
+  packet_malformed : (Framed 28 0 p → ⊥) → lowest (packet_rows p) ≡ Err refusal.Malformed
   unfolding packet_rows
   packet_malformed n = row_applies _ _ _ (ap not (fails _ (λ e. n (telemetry_frame (telemetry_out p e)))))
 
-  packet_apid : Framed 28 0 p → apid_in p ≢ 788 → lowest (packet_rows p) ≡ Rejected refusal.OtherApid
+  packet_apid : Framed 28 0 p → apid_in p ≢ 788 → lowest (packet_rows p) ≡ Err refusal.OtherApid
   unfolding packet_rows
   packet_apid s n =
       lowest_past 1 (packet_rows p) (frame_test s, tt) ∙ row_applies _ _ _ (ap not (ne_eqb _ _ (λ e. n (sym (apid_is p b) ∙ e))))
 
-  packet_length_wrong : Framed 28 0 p → apid_in p ≡ 788 → length p ≢ 28 + 4 * four p 24 → lowest (packet_rows p) ≡ Rejected refusal.PacketLength
+  packet_length_wrong : Framed 28 0 p → apid_in p ≡ 788 → length p ≢ 28 + 4 * four p 24 → lowest (packet_rows p) ≡ Err refusal.PacketLength
   unfolding packet_rows
   packet_length_wrong s a n =
       lowest_past 2 (packet_rows p) (frame_test s, (apid_right a, tt)) ∙ row_applies _ _ _ (ap not (fails (words_right p) (λ t. n (words_out t))))
 
-  packet_no_cut : Given p → (CutIs (packet_fields p) → ⊥) → lowest (packet_rows p) ≡ Rejected refusal.BadField
+  packet_no_cut : Given p → (CutIs (packet_fields p) → ⊥) → lowest (packet_rows p) ≡ Err refusal.BadField
   unfolding packet_rows
   packet_no_cut g n =
       lowest_past 3 (packet_rows p) (frame_test g.frame, (apid_right g.apid, (ap not (words_in g), tt)))
       ∙ row_applies _ _ _ (ap not (fails _ (λ t. n (cut_out (packet_fields p) t))))
 
 -- the reader's number is that of the first row that applies
-given_refused : (q : List ℕ) (r : Refusal) → lowest (packet_rows q) ≡ Rejected r → number_given q ≡ number r
+given_refused : (q : List ℕ) (r : Refusal) → lowest (packet_rows q) ≡ Err r → number_given q ≡ number r
 unfolding read_packet
-given_refused q r e = ap (λ (v : Verdict). packet_number (conclude_packet q v).reading) e
+given_refused q r e = ap (λ (v : Result (Unit {0}) Refusal). packet_number (conclude_packet q v).reading) e
 
 -- one thing changed in a packet that passes 4, 5 and 7
 module _ (p q : List ℕ) (b : AreBytes q) (r : Given p) where
-  apid_given : OtherApid p q → ((i : ℕ) → i ≢ 0 → i ≢ 1 → Same p q i) → lowest (packet_rows q) ≡ Rejected refusal.OtherApid
+  apid_given : OtherApid p q → ((i : ℕ) → i ≢ 0 → i ≢ 1 → Same p q i) → lowest (packet_rows q) ≡ Err refusal.OtherApid
   apid_given o same =
       packet_apid q b (frame_but_apid p q r.frame (omega arith) o (λ i m n h. same i m n)) (λ h. o.apid (h ∙ sym r.apid))
 
   -- no number of words has a length that differs by one
-  bytes_given : OtherLength p q → ((i : ℕ) → i ≢ 4 → i ≢ 5 → Same p q i) → lowest (packet_rows q) ≡ Rejected refusal.PacketLength
+  bytes_given : OtherLength p q → ((i : ℕ) → i ≢ 4 → i ≢ 5 → Same p q i) → lowest (packet_rows q) ≡ Err refusal.PacketLength
   bytes_given o same =
       let k = r.some in
       let g = r.bytes in

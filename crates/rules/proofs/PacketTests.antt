@@ -1,5 +1,6 @@
 -- The dump packet reader accepts exactly the packets that pass its tests: the tests as facts one by one, both ways.
 -- Assumes nothing.
+use Rattle.std.specs.Prelude.{Result, Ok, Err}
 use mathlib.Core.Path.{◌≡◌, refl, ap}
 use mathlib.Core.Bool.{true, ◌&&◌, not}
 use mathlib.Core.List.{List}
@@ -17,10 +18,9 @@ use Rattle.rules.specs.Cases.{TelemetryFormed}
 use Rattle.rules.specs.Slots.{dump_apid, packet_header}
 use Rattle.rules.specs.Ground.{packet_fields, could_be_dumped, is_cut, cut_rules, packet_rows, packet_number, conclude_packet, read_packet}
 use Rattle.rules.specs.declared.DumpPacket.{DumpPacket}
-use Rattle.rules.specs.declared.Verdict.{Verdict}
-use Rattle.rules.specs.declared.Verdict.TheVariants.{Accepted, Rejected}
 use Rattle.rules.proofs.LowestNumber.{number_some}
 use Rattle.rules.proofs.Passed.{NoneApplies, lowest_none, none_lowest}
+use Rattle.rules.specs.declared.Refusal.{Refusal}
 
 -- THE CUT
 
@@ -166,14 +166,14 @@ module _ (p : List ℕ) where
       )
 
   -- an answer of 0 is no refusal
-  concluded : (v : Verdict) → packet_number (conclude_packet p v).reading ≡ 0 → v ≡ Accepted
-  concluded Accepted h = refl
-  concluded (Rejected r) h = let l = number_some r in absurd (omega arith)
+  concluded : (v : Result (Unit {0}) Refusal) → packet_number (conclude_packet p v).reading ≡ 0 → v ≡ (Ok tt)
+  concluded (Ok tt) h = refl
+  concluded (Err r) h = let l = number_some r in absurd (omega arith)
 
   pub packet_out : packet_number (read_packet p).reading ≡ 0 → PacketIs p
   unfolding read_packet
   packet_out h = rows_out (lowest_none (packet_rows p) (concluded (lowest (packet_rows p)) h))
 
-  pub packet_in_lem : PacketIs p → read_packet p ≡ conclude_packet p Accepted
+  pub packet_in_lem : PacketIs p → read_packet p ≡ conclude_packet p (Ok tt)
   unfolding read_packet
   packet_in_lem k = ap (conclude_packet p) (none_lowest (packet_rows p) (rows_in k))

@@ -1,5 +1,6 @@
 -- A command is accepted exactly if each test of the table of result numbers passes, and is then carried out.
 -- Assumes nothing.
+use Rattle.std.specs.Prelude.{Option, Some, None, Result, Ok, Err}
 use mathlib.Core.Path.{◌≡◌, refl, ap}
 use mathlib.Core.Bool.{true, false, not}
 use mathlib.Core.List.{List, [], ◌∷◌}
@@ -17,13 +18,11 @@ use Rattle.rules.specs.Commands.{CommandArgs, task_of, task, is_unknown, wrong_l
 use Rattle.rules.specs.Demand2.{IsAccepted}
 use Rattle.rules.specs.declared.State.{State}
 use Rattle.rules.specs.declared.Command.TheVariants.{Dump, Cancel, Load, PoolStatistics, SymbolValue, DumpSymbol}
-use Rattle.rules.specs.declared.Decoded.{Decoded}
-use Rattle.rules.specs.declared.Decoded.TheVariants.{Unknown, Known}
 use Rattle.rules.specs.declared.Range.{Range}
 use Rattle.rules.specs.declared.Region.{Region}
-use Rattle.rules.specs.declared.Verdict.{Verdict}
-use Rattle.rules.specs.declared.Verdict.TheVariants.{Accepted, Rejected}
 use Rattle.rules.proofs.LowestNumber.{number_some}
+use Rattle.rules.specs.declared.Refusal.{Refusal}
+use Rattle.rules.specs.declared.Command.{Command}
 
 -- THE TABLE
 
@@ -37,15 +36,15 @@ infixr 30 ◌&◌
 ◌&◌ : {A B : Type 0} → A → B → A × B
 a & b = (a, b)
 
-pub lowest_none : (rows : List Row) → lowest rows ≡ Accepted → NoneApplies rows
+pub lowest_none : (rows : List Row) → lowest rows ≡ (Ok tt) → NoneApplies rows
 unfolding lowest
 lowest_none [] h = tt
 lowest_none (r ∷ rs) h =
     either r.applies
-    (λ e. let k : Rejected r.refusal ≡ Accepted = rw e at h in let z : ◌≡◌ {A = ℕ} 0 1 = cc in absurd (omega arith))
+    (λ e. let k : Err r.refusal ≡ (Ok tt) = rw e at h in let z : ◌≡◌ {A = ℕ} 0 1 = cc in absurd (omega arith))
     (λ e. (e, lowest_none rs (rw e at h)))
 
-pub none_lowest : (rows : List Row) → NoneApplies rows → lowest rows ≡ Accepted
+pub none_lowest : (rows : List Row) → NoneApplies rows → lowest rows ≡ (Ok tt)
 unfolding lowest
 none_lowest [] h = refl
 none_lowest (r ∷ rs) h = rw h.0 (none_lowest rs h.1)
@@ -65,7 +64,7 @@ lowest_past (suc k) (r ∷ rs) f = rw f.0 (lowest_past k rs f.1)
 -- THE TESTS THAT A COMMAND PASSED
 
 -- those that look at its packet and its symbol
-pub record Laid (c : CommandArgs) (d : Decoded) : Type 0 where
+pub record Laid (c : CommandArgs) (d : Option Command) : Type 0 where
   pub known : is_unknown d ≡ false
   pub bytes : wrong_length c.packet d ≡ false
   pub table : no_table c.symbols d ≡ false
@@ -74,7 +73,7 @@ pub record Laid (c : CommandArgs) (d : Decoded) : Type 0 where
   pub range : wrong_range c.symbols (name_in c.packet) d ≡ false
 
 -- and those that look at its task
-pub record Tested (s : State) (c : CommandArgs) (d : Decoded) : Type 0 where
+pub record Tested (s : State) (c : CommandArgs) (d : Option Command) : Type 0 where
   pub laid : Laid c d
   pub inside : outside s (task_of c.symbols (name_in c.packet) d) ≡ false
   pub whole : past_end s (task_of c.symbols (name_in c.packet) d) ≡ false
@@ -157,33 +156,33 @@ undamaged (whole bs) h = (bs, refl)
 
 module _ (s : State) (c : CommandArgs) where
   -- an answer of 0 is no refusal
-  concluded : (v : Verdict) → answer_number (conclude s c v).answer ≡ 0 → v ≡ Accepted
-  concluded Accepted h = refl
-  concluded (Rejected r) h = let l = number_some r in absurd (omega arith)
+  concluded : (v : Result (Unit {0}) Refusal) → answer_number (conclude s c v).answer ≡ 0 → v ≡ (Ok tt)
+  concluded (Ok tt) h = refl
+  concluded (Err r) h = let l = number_some r in absurd (omega arith)
 
   -- a command whose tests passed is answered 0 when it is carried out
-  carried_out : (d : Decoded) → Tested s c d → answer_number (carry_out s c (task_of c.symbols (name_in c.packet) d)).answer ≡ 0
-  carried_out Unknown t = absurd (contra refl t.laid.known)
-  carried_out (Known (Dump q)) t = refl
-  carried_out (Known Cancel) t = refl
-  carried_out (Known (Load q)) t = refl
-  carried_out (Known (PoolStatistics i)) t = let u = undamaged (blocks_of (pool_words s i c.image)) t.blocks in rw u.1
-  carried_out (Known (SymbolValue n)) t = refl
-  carried_out (Known (DumpSymbol q)) t = refl
+  carried_out : (d : Option Command) → Tested s c d → answer_number (carry_out s c (task_of c.symbols (name_in c.packet) d)).answer ≡ 0
+  carried_out None t = absurd (contra refl t.laid.known)
+  carried_out (Some (Dump q)) t = refl
+  carried_out (Some Cancel) t = refl
+  carried_out (Some (Load q)) t = refl
+  carried_out (Some (PoolStatistics i)) t = let u = undamaged (blocks_of (pool_words s i c.image)) t.blocks in rw u.1
+  carried_out (Some (SymbolValue n)) t = refl
+  carried_out (Some (DumpSymbol q)) t = refl
 
-  accepted_lowest : IsAccepted s c → lowest (command_rows s c) ≡ Accepted
+  accepted_lowest : IsAccepted s c → lowest (command_rows s c) ≡ (Ok tt)
   unfolding command_call
   accepted_lowest h = concluded (lowest (command_rows s c)) h
 
-  lowest_call : lowest (command_rows s c) ≡ Accepted
+  lowest_call : lowest (command_rows s c) ≡ (Ok tt)
       → command_call s c ≡ carry_out s c (task_of c.symbols (name_in c.packet) (decode c.packet))
   unfolding command_call task
   lowest_call h = ap (conclude s c) h
 
-  concluded_number : (v : Verdict) → lowest (command_rows s c) ≡ v → answer_number (conclude s c v).answer ≡ verdict_number v
+  concluded_number : (v : Result (Unit {0}) Refusal) → lowest (command_rows s c) ≡ v → answer_number (conclude s c v).answer ≡ verdict_number v
   unfolding task
-  concluded_number Accepted e = carried_out (decode c.packet) (rows_out s c (lowest_none _ e)).tests
-  concluded_number (Rejected r) e = refl
+  concluded_number (Ok tt) e = carried_out (decode c.packet) (rows_out s c (lowest_none _ e)).tests
+  concluded_number (Err r) e = refl
 
   -- the number of the first row that applies, and 0 if none does
   pub answer_number_lem : answer_number (command_call s c).answer ≡ verdict_number (lowest (command_rows s c))
@@ -191,7 +190,7 @@ module _ (s : State) (c : CommandArgs) where
   answer_number_lem = concluded_number (lowest (command_rows s c)) refl
 
   -- a command of which no row applies passed its tests
-  pub tests_passed : lowest (command_rows s c) ≡ Accepted → Tested s c (decode c.packet)
+  pub tests_passed : lowest (command_rows s c) ≡ (Ok tt) → Tested s c (decode c.packet)
   tests_passed h = (rows_out s c (lowest_none _ h)).tests
 
   pub passed_out : IsAccepted s c → Passed s c
@@ -205,5 +204,5 @@ module _ (s : State) (c : CommandArgs) where
   accepted_call h = lowest_call (accepted_lowest h)
 
   -- the tests of an accepted command, where its command is known
-  pub tests_of : (d : Decoded) → decode c.packet ≡ d → IsAccepted s c → Tested s c d
+  pub tests_of : (d : Option Command) → decode c.packet ≡ d → IsAccepted s c → Tested s c d
   tests_of d e h = rw e at (passed_out h).tests

@@ -1,5 +1,6 @@
 -- Packets in plain bytes.
 -- Assumes nothing.
+use Rattle.std.specs.Prelude.{Some, Ok}
 use mathlib.Core.Path.{◌≡◌, refl, sym, ap, subst⁻¹, ◌∙◌}
 use mathlib.Core.List.{List, [], ◌∷◌, ◌++◌}
 use Prim.Native.Nat.{ℕ, ◌+◌, ◌*◌, ◌-◌, ◌/◌, ◌%◌, ◌≤◌, ◌<◌, min}
@@ -27,11 +28,8 @@ use Rattle.rules.specs.PlainBytes.{SignedOffset, AskedOfCallers, HeaderFields, r
 use Rattle.rules.specs.declared.ActiveDump.{ActiveDump}
 use Rattle.rules.specs.declared.Command.{Command}
 use Rattle.rules.specs.declared.Command.TheVariants.{Dump, Cancel, Load, PoolStatistics, SymbolValue, DumpSymbol}
-use Rattle.rules.specs.declared.Decoded.TheVariants.{Known}
 use Rattle.rules.specs.declared.DumpPacket.{DumpPacket}
 use Rattle.rules.specs.declared.Header.{Header}
-use Rattle.rules.specs.declared.PacketReading.TheVariants.{Packet}
-use Rattle.rules.specs.declared.Reading.TheVariants.{Read}
 use Rattle.rules.specs.declared.Request.{Request}
 use Rattle.rules.specs.declared.State.{State}
 use Rattle.rules.specs.declared.SymbolRequest.{SymbolRequest}
@@ -88,12 +86,12 @@ command_fields p b =
       transaction = f.transaction 8;
       range = λ i. record { start = record { 0 = at_four p 12 i }; words = at_two p 10 i };
       pool = at_two p 10;
-      dump = λ e. decode_dump p e ∙ ap (λ (q : Request). Known (Dump q)) (request_at_lem p);
+      dump = λ e. decode_dump p e ∙ ap (λ (q : Request). Some (Dump q)) (request_at_lem p);
       cancel = λ e. decode_cancel p e;
-      load = λ e. decode_load p e ∙ ap (λ (q : Request). Known (Load q)) (request_at_lem p);
-      statistics = λ e. decode_pool p e ∙ ap (λ (n : ℕ). Known (PoolStatistics n)) (at_two p 10);
+      load = λ e. decode_load p e ∙ ap (λ (q : Request). Some (Load q)) (request_at_lem p);
+      statistics = λ e. decode_pool p e ∙ ap (λ (n : ℕ). Some (PoolStatistics n)) (at_two p 10);
       value = λ e. decode_value p e;
-      by_name = λ e. decode_by_name p e ∙ ap (λ (q : SymbolRequest). Known (DumpSymbol q)) (symbol_request_at p);
+      by_name = λ e. decode_by_name p e ∙ ap (λ (q : SymbolRequest). Some (DumpSymbol q)) (symbol_request_at p);
       other = decode_other p;
       words = words_at_length 11 p 16;
       word = λ k l. words_at_word 11 p 16 k l ∙ at_four p (16 + 4 * k);
@@ -209,7 +207,7 @@ header_at_lem p b at =
     let t = f.transaction at in
     λ i. record { count = c i; unit = u i; transaction = t i }
 
-command_given : (p : List ℕ) (f : Telecommand) → AreBytes p → (read_command p).reading ≡ Read f → CommandGiven p f (read_command p).words
+command_given : (p : List ℕ) (f : Telecommand) → AreBytes p → (read_command p).reading ≡ Ok f → CommandGiven p f (read_command p).words
 command_given p f b e =
     let r = readable_out p f.header f.command e in
     record {
@@ -220,10 +218,10 @@ command_given p f b e =
 
 -- DUMP PACKETS, READ
 
-packet_given : (p : List ℕ) (f : DumpPacket) → AreBytes p → (read_packet p).reading ≡ Packet f → PacketGiven p f (read_packet p).part
+packet_given : (p : List ℕ) (f : DumpPacket) → AreBytes p → (read_packet p).reading ≡ Ok f → PacketGiven p f (read_packet p).part
 packet_given p f b e =
     let is = packet_in_lem p (packet_out p (ap packet_number e)) in
-    let r : Packet (packet_fields p) ≡ Packet f = sym (ap (λ (r : PacketRead). r.reading) is) ∙ e in
+    let r : Ok (packet_fields p) ≡ Ok f = sym (ap (λ (r : PacketRead). r.reading) is) ∙ e in
     let g : packet_fields p ≡ f = cc in
     record {
       header = ap (λ (x : DumpPacket). x.header) (sym g) ∙ header_at_lem p b 6;

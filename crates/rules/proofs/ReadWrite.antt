@@ -1,6 +1,7 @@
 -- What the command reader read is accepted by the command writer, and written to the same bytes exactly if the data words or the bytes of a
 -- name that are not used are 0.
 -- Assumes nothing.
+use Rattle.std.specs.Prelude.{Some, Ok}
 use mathlib.Core.Path.{◌≡◌, refl, sym, ap, subst, ◌∙◌}
 use mathlib.Core.Logic.{◌↔◌}
 use mathlib.Core.Bool.{true}
@@ -25,9 +26,7 @@ use Rattle.rules.specs.Ground.{write_command, read_command, words_beside}
 use Rattle.rules.specs.ReadBack.{AreWords, letter, RestZero, ReadWrite}
 use Rattle.rules.specs.declared.Command.{Command}
 use Rattle.rules.specs.declared.Command.TheVariants.{Dump, Cancel, Load, PoolStatistics, SymbolValue, DumpSymbol}
-use Rattle.rules.specs.declared.Decoded.TheVariants.{Known}
 use Rattle.rules.specs.declared.Header.{Header}
-use Rattle.rules.specs.declared.Reading.TheVariants.{Read}
 use Rattle.rules.proofs.Fits.{body_length, command_length}
 use Rattle.rules.proofs.Allowed.{decode_dump, decode_cancel, decode_load, decode_pool, decode_value, decode_by_name, decode_other}
 use Rattle.rules.proofs.Sealed.{sealed_back}
@@ -38,14 +37,14 @@ use Rattle.rules.proofs.FieldsBack.{pair_back, primary_back, identity_back, requ
 -- THE COMMAND OF A PACKET
 
 module _ (p : List ℕ) where
-  known_same : (j k : Command) → decode p ≡ Known j → decode p ≡ Known k → j ≡ k
+  known_same : (j k : Command) → decode p ≡ Some j → decode p ≡ Some k → j ≡ k
   known_same j k d e = cc
 
   -- what holds of the command of each function code holds of the command of the packet
   by_code : (P : Command → Type 0) → (function_code_of p ≡ 0 → P (Dump (request_of p))) → (function_code_of p ≡ 1 → P Cancel)
       → (function_code_of p ≡ 4 → P (Load (request_of p))) → (function_code_of p ≡ 7 → P (PoolStatistics (pool_of p)))
       → (function_code_of p ≡ 8 → P (SymbolValue (name_size_of p))) → (function_code_of p ≡ 9 → P (DumpSymbol (symbol_request_of p)))
-      → (k : Command) → decode p ≡ Known k → P k
+      → (k : Command) → decode p ≡ Some k → P k
   by_code P dump cancel load pool value by_name k e =
       is 0 (λ c. subst P (known_same _ k (decode_dump p c) e) (dump c)) (λ n₀.
       is 1 (λ c. subst P (known_same _ k (decode_cancel p c) e) (cancel c)) (λ n₁.
@@ -59,7 +58,7 @@ module _ (p : List ℕ) where
       is : (n : ℕ) → (function_code_of p ≡ n → P k) → ((function_code_of p ≡ n → ⊥) → P k) → P k
       is n f g = either (eqb (function_code_of p) n) (λ t. f (eqb-true _ _ t)) (λ t. g (eqb-false _ _ t))
 
-  code_known : (k : Command) → decode p ≡ Known k → function_code_of p ≡ code_of k
+  code_known : (k : Command) → decode p ≡ Some k → function_code_of p ≡ code_of k
   code_known = by_code (λ k. function_code_of p ≡ code_of k) (λ c. c) (λ c. c) (λ c. c) (λ c. c) (λ c. c) (λ c. c)
 
 -- THE BYTES
@@ -100,7 +99,7 @@ module _ (p : List ℕ) (bytes : AreBytes p) where
       let end = pair_back p bytes 0 66 (sym (eqb-true _ _ (and_right a b o))) in
       λ x. name x ++ offset x ++ size x ++ end x
 
-  body_back : (k : Command) → decode p ≡ Known k → BodyBack p k
+  body_back : (k : Command) → decode p ≡ Some k → BodyBack p k
   body_back =
       by_code p (BodyBack p)
       (λ c o z. request_back p bytes)
@@ -167,7 +166,7 @@ module _ (p : List ℕ) (bytes : AreBytes p) (k : Command) (r : Readable p k) (b
         ),
       )
 
-pub read_write : (h : Header) (k : Command) (p buffer : List ℕ) → AreBytes p → (read_command p).reading ≡ Read (record { header = h; command = k })
+pub read_write : (h : Header) (k : Command) (p buffer : List ℕ) → AreBytes p → (read_command p).reading ≡ Ok (record { header = h; command = k })
     → length p ≤ length buffer
     → (answer_number (write_command h k (read_command p).words buffer).answer ≡ 0) × ReadWrite h k p buffer
 read_write h k p buffer bytes e fits =

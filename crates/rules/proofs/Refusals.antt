@@ -1,5 +1,6 @@
 -- Demand 1: each call gives each number exactly in its case, and a refusal leaves all as it was, save the refused count where it counts.
 -- Assumes nothing.
+use Rattle.std.specs.Prelude.{Option, Some, None, Result, Ok, Err}
 use mathlib.Core.Path.{◌≡◌, refl, sym, ◌∙◌}
 use mathlib.Core.Logic.{◌≢◌, inl, inr}
 use mathlib.Core.Bool.{true, false}
@@ -27,8 +28,6 @@ use Rattle.rules.specs.declared.Command.{Command}
 use Rattle.rules.specs.declared.Command.TheVariants.{Dump, Cancel, Load, PoolStatistics, SymbolValue, DumpSymbol}
 use Rattle.rules.specs.declared.Context.{Context}
 use Rattle.rules.specs.declared.Context.TheVariants.{Idle, Busy}
-use Rattle.rules.specs.declared.Decoded.{Decoded}
-use Rattle.rules.specs.declared.Decoded.TheVariants.{Unknown, Known}
 use Rattle.rules.specs.declared.Header.{Header}
 use Rattle.rules.specs.declared.Range.{Range}
 use Rattle.rules.specs.declared.Refusal.{Refusal}
@@ -37,8 +36,6 @@ use Rattle.rules.specs.declared.Region.{Region}
 use Rattle.rules.specs.declared.State.{State}
 use Rattle.rules.specs.declared.Task.{Task}
 use Rattle.rules.specs.declared.Task.TheVariants.{Nothing, DumpRange, CancelDump, LoadRange, CountPool, TellValue}
-use Rattle.rules.specs.declared.Verdict.{Verdict}
-use Rattle.rules.specs.declared.Verdict.TheVariants.{Accepted, Rejected}
 use Rattle.rules.proofs.Good.{good_out}
 use Rattle.rules.proofs.LowestNumber.{number_some, lowest_number, without, lowest_without, first_number, test_passed}
 use Rattle.rules.proofs.Fits.{load_keeps_length, reply_keeps_length, packet_keeps_length, command_keeps_length, command_length}
@@ -106,7 +103,7 @@ record CarriedOut (s : State) (c : CommandArgs) (o : Outcome) : Type 0 where
   image : length o.image ≡ length c.image
   buffer : length o.buffer ≡ length c.reply
 
-module _ (s : State) (c : CommandArgs) (passed : lowest (command_rows s c) ≡ Accepted) where
+module _ (s : State) (c : CommandArgs) (passed : lowest (command_rows s c) ≡ (Ok tt)) where
   image_length_lem : length c.image ≡ image_length s.regions s.count
   unfolding command_rows lent_rows
   image_length_lem = eqb-true _ _ (not-false _ (test_passed (command_rows s c) passed 2))
@@ -127,11 +124,11 @@ module _ (s : State) (c : CommandArgs) (passed : lowest (command_rows s c) ≡ A
       let l = reply_room in
       splice_length c.reply 0 (value_bytes s.values s.unit (command_transaction c.packet) v) (omega arith)
 
-  carried_out : (d : Decoded) → Tested s c d → CarriedOut s c (carry_out s c (task_of c.symbols (name_in c.packet) d))
-  carried_out Unknown t = absurd (contra refl t.laid.known)
-  carried_out (Known (Dump q)) t = record { done = refl; accepted = refl; refused = refl; image = refl; buffer = refl }
-  carried_out (Known Cancel) t = record { done = refl; accepted = refl; refused = refl; image = refl; buffer = refl }
-  carried_out (Known (Load q)) t =
+  carried_out : (d : Option Command) → Tested s c d → CarriedOut s c (carry_out s c (task_of c.symbols (name_in c.packet) d))
+  carried_out None t = absurd (contra refl t.laid.known)
+  carried_out (Some (Dump q)) t = record { done = refl; accepted = refl; refused = refl; image = refl; buffer = refl }
+  carried_out (Some Cancel) t = record { done = refl; accepted = refl; refused = refl; image = refl; buffer = refl }
+  carried_out (Some (Load q)) t =
       record {
         done = refl;
         accepted = refl;
@@ -139,32 +136,32 @@ module _ (s : State) (c : CommandArgs) (passed : lowest (command_rows s c) ≡ A
         image = load_keeps_length s.regions s.count q c.packet c.image (whole_passed _ _ _ t.inside t.whole) image_length_lem;
         buffer = refl;
       }
-  carried_out (Known (PoolStatistics i)) t = replied_out i (blocks_of (pool_words s i c.image)) t.blocks
-  carried_out (Known (SymbolValue n)) t =
+  carried_out (Some (PoolStatistics i)) t = replied_out i (blocks_of (pool_words s i c.image)) t.blocks
+  carried_out (Some (SymbolValue n)) t =
       record { done = refl; accepted = refl; refused = refl; image = refl; buffer = told_length (value_of c.symbols (name_in c.packet)) }
-  carried_out (Known (DumpSymbol q)) t = record { done = refl; accepted = refl; refused = refl; image = refl; buffer = refl }
+  carried_out (Some (DumpSymbol q)) t = record { done = refl; accepted = refl; refused = refl; image = refl; buffer = refl }
 
 -- A COMMAND THAT NAMES NO SYMBOL
 
 -- its second 9 never applies, and its task is the same whatever symbol table is lent
 module _ (symbols name : List ℕ) where
-  no_range : (d : Decoded) → names_symbol d ≡ false → wrong_range symbols name d ≡ false
-  no_range Unknown n = refl
-  no_range (Known (Dump q)) n = refl
-  no_range (Known Cancel) n = refl
-  no_range (Known (Load q)) n = refl
-  no_range (Known (PoolStatistics i)) n = refl
-  no_range (Known (SymbolValue i)) n = refl
-  no_range (Known (DumpSymbol q)) n = absurd (contra refl n)
+  no_range : (d : Option Command) → names_symbol d ≡ false → wrong_range symbols name d ≡ false
+  no_range None n = refl
+  no_range (Some (Dump q)) n = refl
+  no_range (Some Cancel) n = refl
+  no_range (Some (Load q)) n = refl
+  no_range (Some (PoolStatistics i)) n = refl
+  no_range (Some (SymbolValue i)) n = refl
+  no_range (Some (DumpSymbol q)) n = absurd (contra refl n)
 
-  same_task : (others : List ℕ) (d : Decoded) → names_symbol d ≡ false → task_of others name d ≡ task_of symbols name d
-  same_task others Unknown n = refl
-  same_task others (Known (Dump q)) n = refl
-  same_task others (Known Cancel) n = refl
-  same_task others (Known (Load q)) n = refl
-  same_task others (Known (PoolStatistics i)) n = refl
-  same_task others (Known (SymbolValue i)) n = absurd (contra refl n)
-  same_task others (Known (DumpSymbol q)) n = absurd (contra refl n)
+  same_task : (others : List ℕ) (d : Option Command) → names_symbol d ≡ false → task_of others name d ≡ task_of symbols name d
+  same_task others None n = refl
+  same_task others (Some (Dump q)) n = refl
+  same_task others (Some Cancel) n = refl
+  same_task others (Some (Load q)) n = refl
+  same_task others (Some (PoolStatistics i)) n = refl
+  same_task others (Some (SymbolValue i)) n = absurd (contra refl n)
+  same_task others (Some (DumpSymbol q)) n = absurd (contra refl n)
 
 -- no two numbers are alike in the order of the command call's
 ten_apart : (i j : ℕ) → after_ten i ≡ after_ten j → i ≡ j
@@ -211,9 +208,9 @@ module _ (s : State) (c : CommandArgs) (none : names_symbol (decode c.packet) �
       λ symbols. no_range symbols (name_in c.packet) (decode c.packet) none in
       rw (none, r c.symbols, r others, other_task others)
 
-  other_outcome : (others : List ℕ) (v : Verdict) → conclude s (lent_other c others) v ≡ conclude s c v
-  other_outcome others Accepted = rw (other_task others) (same_outcome s c others (task c))
-  other_outcome others (Rejected r) = refl
+  other_outcome : (others : List ℕ) (v : Result (Unit {0}) Refusal) → conclude s (lent_other c others) v ≡ conclude s c v
+  other_outcome others (Ok tt) = rw (other_task others) (same_outcome s c others (task c))
+  other_outcome others (Err r) = refl
 
   other_call : (others : List ℕ) → command_call s (lent_other c others) ≡ command_call s c
   unfolding command_call
@@ -222,13 +219,13 @@ module _ (s : State) (c : CommandArgs) (none : names_symbol (decode c.packet) �
 -- THE COMMAND CALL'S STATEMENT
 
 module _ (s : State) (c : CommandArgs) where
-  command_accepted : lowest (command_rows s c) ≡ Accepted → (o : Outcome) → command_call s c ≡ o → CarriedOut s c o → CommandRefusals s c o
+  command_accepted : lowest (command_rows s c) ≡ (Ok tt) → (o : Outcome) → command_call s c ≡ o → CarriedOut s c o → CommandRefusals s c o
   unfolding command_rows lent_rows
   command_accepted e o call is =
       record {
         numbers = refl;
         cases = command_cases s c;
-        first = rw is.done (first_number (command_rows s c) Accepted e);
+        first = rw is.done (first_number (command_rows s c) (Ok tt) e);
         lowest = λ v n. rw is.done (rw e at (command_lowest s c (names_none c.packet v n)));
         kept = λ n. absurd (n is.done);
         handed_in = (no_number is.done, no_number is.done, no_number is.done, no_number is.done, no_number is.done);
@@ -238,14 +235,14 @@ module _ (s : State) (c : CommandArgs) where
         lent = (is.image, is.buffer);
       }
 
-  command_refused : (r : Refusal) → lowest (command_rows s c) ≡ Rejected r → command_call s c ≡ refused_command s c r
+  command_refused : (r : Refusal) → lowest (command_rows s c) ≡ Err r → command_call s c ≡ refused_command s c r
       → CommandRefusals s c (refused_command s c r)
   unfolding command_rows lent_rows
   command_refused r e call =
       record {
         numbers = refl;
         cases = command_cases s c;
-        first = first_number (command_rows s c) (Rejected r) e;
+        first = first_number (command_rows s c) (Err r) e;
         lowest = λ v n. rw e at (command_lowest s c (names_none c.packet v n));
         kept = λ n. (refl, refl, refl);
         handed_in = let k = these_keep r in
@@ -256,11 +253,11 @@ module _ (s : State) (c : CommandArgs) where
         lent = (refl, refl);
       }
 
-  command_concluded : (v : Verdict) → lowest (command_rows s c) ≡ v → command_call s c ≡ conclude s c v → CommandRefusals s c (conclude s c v)
+  command_concluded : (v : Result (Unit {0}) Refusal) → lowest (command_rows s c) ≡ v → command_call s c ≡ conclude s c v → CommandRefusals s c (conclude s c v)
   unfolding task
-  command_concluded Accepted e call =
+  command_concluded (Ok tt) e call =
       command_accepted e (carry_out s c (task c)) call (carried_out s c e (decode c.packet) (tests_passed s c e))
-  command_concluded (Rejected r) e call = command_refused r e call
+  command_concluded (Err r) e call = command_refused r e call
 
   command_refusals : CommandRefusals s c (command_call s c)
   unfolding command_call
@@ -269,52 +266,52 @@ module _ (s : State) (c : CommandArgs) where
 -- THE SLOT CALL
 
 module _ (s : State) (c : SlotArgs) where
-  slot_lowest : (v : Verdict) → lowest (slot_rows s c) ≡ v → Lowest (slot_rows s c) (verdict_number v)
+  slot_lowest : (v : Result (Unit {0}) Refusal) → lowest (slot_rows s c) ≡ v → Lowest (slot_rows s c) (verdict_number v)
   unfolding slot_rows lent_rows
   slot_lowest = lowest_number (λ i. i) (λ i j e. e) (slot_rows s c) refl
 
   -- where no row applies the next place is busy
-  next_is_busy : lowest (slot_rows s c) ≡ Accepted → is_busy (context_at s.places (next_place s.places s.last)) ≡ true
+  next_is_busy : lowest (slot_rows s c) ≡ (Ok tt) → is_busy (context_at s.places (next_place s.places s.last)) ≡ true
   unfolding slot_rows lent_rows
   next_is_busy e =
       let g : good_state s ≡ true = not-false _ (test_passed (slot_rows s c) e 1) in
       let b : any_busy s.places ≡ true = not-false _ (test_passed (slot_rows s c) e 16) in
       next_busy s.places s.last (good_out s g).last b
 
-  packet_room : lowest (slot_rows s c) ≡ Accepted → longest_packet ≤ length c.buffer
+  packet_room : lowest (slot_rows s c) ≡ (Ok tt) → longest_packet ≤ length c.buffer
   unfolding slot_rows lent_rows
   packet_room e = ltb-false _ _ (test_passed (slot_rows s c) e 3)
 
-  slot_refused : (r : Refusal) → lowest (slot_rows s c) ≡ Rejected r → SlotRefusals s c (refused_slot s c r)
+  slot_refused : (r : Refusal) → lowest (slot_rows s c) ≡ Err r → SlotRefusals s c (refused_slot s c r)
   unfolding slot_rows lent_rows
   slot_refused r e =
       record {
         numbers = refl;
         cases = slot_cases s c;
-        lowest = slot_lowest (Rejected r) e;
+        lowest = slot_lowest (Err r) e;
         kept = λ n. (refl, refl, refl);
         image = refl;
         counts = (refl, refl);
         lent = refl;
       }
 
-  slot_served : lowest (slot_rows s c) ≡ Accepted → (p : ℕ) (a : Context) → is_busy a ≡ true → SlotRefusals s c (serve s c p a)
+  slot_served : lowest (slot_rows s c) ≡ (Ok tt) → (p : ℕ) (a : Context) → is_busy a ≡ true → SlotRefusals s c (serve s c p a)
   unfolding slot_rows lent_rows
   slot_served e p Idle b = absurd (contra b refl)
   slot_served e p (Busy d) b =
       record {
         numbers = refl;
         cases = slot_cases s c;
-        lowest = slot_lowest Accepted e;
+        lowest = slot_lowest (Ok tt) e;
         kept = λ n. absurd (n refl);
         image = refl;
         counts = (refl, refl);
         lent = packet_keeps_length s c.tick d c.image c.buffer (packet_room e);
       }
 
-  slot_concluded : (v : Verdict) → lowest (slot_rows s c) ≡ v → SlotRefusals s c (conclude_slot s c v)
-  slot_concluded Accepted e = slot_served e (next_place s.places s.last) (context_at s.places (next_place s.places s.last)) (next_is_busy e)
-  slot_concluded (Rejected r) e = slot_refused r e
+  slot_concluded : (v : Result (Unit {0}) Refusal) → lowest (slot_rows s c) ≡ v → SlotRefusals s c (conclude_slot s c v)
+  slot_concluded (Ok tt) e = slot_served e (next_place s.places s.last) (context_at s.places (next_place s.places s.last)) (next_is_busy e)
+  slot_concluded (Err r) e = slot_refused r e
 
   slot_refusals : SlotRefusals s c (slot_call s c)
   unfolding slot_call
@@ -359,59 +356,59 @@ start_refusals rs n pools unit =
 -- THE GROUND
 
 module _ (h : Header) (k : Command) (ws buffer : List ℕ) where
-  writer_number : (v : Verdict) → answer_number (conclude_write h k ws buffer v).answer ≡ verdict_number v
-  writer_number Accepted = refl
-  writer_number (Rejected r) = refl
+  writer_number : (v : Result (Unit {0}) Refusal) → answer_number (conclude_write h k ws buffer v).answer ≡ verdict_number v
+  writer_number (Ok tt) = refl
+  writer_number (Err r) = refl
 
   writer_lowest : Lowest (writer_rows h k buffer) (answer_number (write_command h k ws buffer).answer)
   unfolding write_command
   writer_lowest = rw (writer_number (lowest (writer_rows h k buffer))) (lowest_number (λ i. i) (λ i j e. e) (writer_rows h k buffer) (unfold writer_rows in refl) _ refl)
 
-  writer_keeps : (v : Verdict) → answer_number (conclude_write h k ws buffer v).answer ≢ 0
+  writer_keeps : (v : Result (Unit {0}) Refusal) → answer_number (conclude_write h k ws buffer v).answer ≢ 0
       → ((conclude_write h k ws buffer v).buffer ≡ buffer) × (answer_length (conclude_write h k ws buffer v).answer ≡ 0)
-  writer_keeps Accepted n = absurd (n refl)
-  writer_keeps (Rejected r) n = (refl, refl)
+  writer_keeps (Ok tt) n = absurd (n refl)
+  writer_keeps (Err r) n = (refl, refl)
 
-  writer_stays : (v : Verdict) → drop (bytes_of k) (conclude_write h k ws buffer v).buffer ≡ drop (bytes_of k) buffer
-  writer_stays Accepted =
+  writer_stays : (v : Result (Unit {0}) Refusal) → drop (bytes_of k) (conclude_write h k ws buffer v).buffer ≡ drop (bytes_of k) buffer
+  writer_stays (Ok tt) =
       let e : length (command_bytes h k ws) ≡ bytes_of k = command_length h k ws ∙ length_of k in
       rw e at (splice_rest buffer (command_bytes h k ws))
-  writer_stays (Rejected r) = refl
+  writer_stays (Err r) = refl
 
-  writer_length : (v : Verdict) → lowest (writer_rows h k buffer) ≡ v → length (conclude_write h k ws buffer v).buffer ≡ length buffer
+  writer_length : (v : Result (Unit {0}) Refusal) → lowest (writer_rows h k buffer) ≡ v → length (conclude_write h k ws buffer v).buffer ≡ length buffer
   unfolding writer_rows
-  writer_length Accepted e = command_keeps_length h k ws buffer (ltb-false _ _ (test_passed (writer_rows h k buffer) e 3))
-  writer_length (Rejected r) e = refl
+  writer_length (Ok tt) e = command_keeps_length h k ws buffer (ltb-false _ _ (test_passed (writer_rows h k buffer) e 3))
+  writer_length (Err r) e = refl
 
 module _ (p : List ℕ) where
-  fields_number : (k : Decoded) → is_unknown k ≡ false → reading_number (fields_read p k).reading ≡ 0
-  fields_number Unknown e = absurd (contra refl e)
-  fields_number (Known k) e = refl
+  fields_number : (k : Option Command) → is_unknown k ≡ false → reading_number (fields_read p k).reading ≡ 0
+  fields_number None e = absurd (contra refl e)
+  fields_number (Some k) e = refl
 
-  reader_number : (v : Verdict) → lowest (reader_rows p) ≡ v → reading_number (conclude_read p v).reading ≡ verdict_number v
+  reader_number : (v : Result (Unit {0}) Refusal) → lowest (reader_rows p) ≡ v → reading_number (conclude_read p v).reading ≡ verdict_number v
   unfolding reader_rows
-  reader_number Accepted e = fields_number (decode p) (test_passed (reader_rows p) e 6)
-  reader_number (Rejected r) e = refl
+  reader_number (Ok tt) e = fields_number (decode p) (test_passed (reader_rows p) e 6)
+  reader_number (Err r) e = refl
 
   reader_lowest : Lowest (reader_rows p) (reading_number (read_command p).reading)
   unfolding read_command
   reader_lowest = rw (reader_number (lowest (reader_rows p)) refl) (lowest_number (λ i. i) (λ i j e. e) (reader_rows p) (unfold reader_rows in refl) _ refl)
 
-  reader_keeps : (v : Verdict) → lowest (reader_rows p) ≡ v → reading_number (conclude_read p v).reading ≢ 0 → (conclude_read p v).words ≡ no_words
-  reader_keeps Accepted e n = absurd (n (reader_number Accepted e))
-  reader_keeps (Rejected r) e n = refl
+  reader_keeps : (v : Result (Unit {0}) Refusal) → lowest (reader_rows p) ≡ v → reading_number (conclude_read p v).reading ≢ 0 → (conclude_read p v).words ≡ no_words
+  reader_keeps (Ok tt) e n = absurd (n (reader_number (Ok tt) e))
+  reader_keeps (Err r) e n = refl
 
-  packet_number_lem : (v : Verdict) → packet_number (conclude_packet p v).reading ≡ verdict_number v
-  packet_number_lem Accepted = refl
-  packet_number_lem (Rejected r) = refl
+  packet_number_lem : (v : Result (Unit {0}) Refusal) → packet_number (conclude_packet p v).reading ≡ verdict_number v
+  packet_number_lem (Ok tt) = refl
+  packet_number_lem (Err r) = refl
 
   packet_lowest : Lowest (packet_rows p) (packet_number (read_packet p).reading)
   unfolding read_packet
   packet_lowest = rw (packet_number_lem (lowest (packet_rows p))) (lowest_number (λ i. i) (λ i j e. e) (packet_rows p) (unfold packet_rows in refl) _ refl)
 
-  packet_keeps : (v : Verdict) → packet_number (conclude_packet p v).reading ≢ 0 → (conclude_packet p v).part ≡ []
-  packet_keeps Accepted n = absurd (n refl)
-  packet_keeps (Rejected r) n = refl
+  packet_keeps : (v : Result (Unit {0}) Refusal) → packet_number (conclude_packet p v).reading ≢ 0 → (conclude_packet p v).part ≡ []
+  packet_keeps (Ok tt) n = absurd (n refl)
+  packet_keeps (Err r) n = refl
 
 ground_refusals : (h : Header) (k : Command) (ws buffer p : List ℕ) → GroundRefusals h k ws buffer p
 unfolding writer_rows write_command reader_rows read_command packet_rows read_packet

@@ -1,5 +1,6 @@
 -- The dump packet reader accepts what a slot wrote, and gives back the fields and the data that the slot put there.
 -- Assumes nothing.
+use Rattle.std.specs.Prelude.{Ok}
 use mathlib.Core.Path.{◌≡◌, ◌∙◌, refl, ap, sym, subst⁻¹}
 use mathlib.Core.Bool.{true}
 use mathlib.Core.List.{List, []}
@@ -19,7 +20,6 @@ use Rattle.rules.specs.ReadBack.{SlotFits, packet_of, fields_of}
 use Rattle.rules.specs.declared.ActiveDump.{ActiveDump}
 use Rattle.rules.specs.declared.DumpPacket.{DumpPacket}
 use Rattle.rules.specs.declared.Header.{Header}
-use Rattle.rules.specs.declared.PacketReading.TheVariants.{Packet}
 use Rattle.rules.specs.declared.State.{State}
 use Rattle.rules.proofs.Fits.{packet_length_lem, next_most}
 use Rattle.rules.proofs.Good.{DumpIs, GoodIs, good_out}
@@ -150,7 +150,7 @@ module _ (s : State) (c : SlotArgs) (x : SlotDone s c (slot_call s c)) where
         longest = next_most s c.image x.dump;
       }
 
-  packet_read : SlotFits s c → read_packet (packet_of s c) ≡ record { reading = Packet (fields_of s c x); part = word_bytes words }
+  packet_read : SlotFits s c → read_packet (packet_of s c) ≡ record { reading = Ok (fields_of s c x); part = word_bytes words }
   packet_read fits =
       let b = bounds fits.good fits.image in
       let tick = packet_tick s c.tick x.dump words fits.tick in
@@ -158,7 +158,7 @@ module _ (s : State) (c : SlotArgs) (x : SlotDone s c (slot_call s c)) where
 
 pub slot_read : (s : State) (c : SlotArgs) → SlotFits s c → answer_number (slot_call s c).answer ≡ 0
     → (d : SlotDone s c (slot_call s c))
-    × ((read_packet (packet_of s c)).reading ≡ Packet (fields_of s c d))
+    × ((read_packet (packet_of s c)).reading ≡ Ok (fields_of s c d))
     × ((read_packet (packet_of s c)).part ≡ word_bytes (next_words s c.image d.dump))
 slot_read s c fits h =
     let x : SlotDone s c (slot_call s c) = (slot s c fits.good fits.image fits.buffer).done h in

@@ -1,5 +1,6 @@
 -- Demand 2: a good state stays good under every call, and start-up answered 0 gives a good one.
 -- Assumes nothing.
+use Rattle.std.specs.Prelude.{Option, Some, None, Result, Ok, Err}
 use mathlib.Core.Path.{◌≡◌, refl, sym, ap, ◌∙◌}
 use mathlib.Core.Logic.{◌≢◌}
 use mathlib.Core.Bool.{Bool, true, false, ◌&&◌}
@@ -27,8 +28,6 @@ use Rattle.rules.specs.declared.ActiveDump.{ActiveDump}
 use Rattle.rules.specs.declared.Command.TheVariants.{Dump, Cancel, Load, PoolStatistics, SymbolValue, DumpSymbol}
 use Rattle.rules.specs.declared.Context.{Context}
 use Rattle.rules.specs.declared.Context.TheVariants.{Idle, Busy}
-use Rattle.rules.specs.declared.Decoded.{Decoded}
-use Rattle.rules.specs.declared.Decoded.TheVariants.{Unknown, Known}
 use Rattle.rules.specs.declared.Place.{Place}
 use Rattle.rules.specs.declared.Range.{Range}
 use Rattle.rules.specs.declared.Refusal.{Refusal}
@@ -36,25 +35,24 @@ use Rattle.rules.specs.declared.Refusal.TheVariants.{UnknownCode, PoolDamaged}
 use Rattle.rules.specs.declared.Region.{Region}
 use Rattle.rules.specs.declared.State.{State}
 use Rattle.rules.specs.declared.Task.TheVariants.{DumpRange, CancelDump}
-use Rattle.rules.specs.declared.Verdict.{Verdict}
-use Rattle.rules.specs.declared.Verdict.TheVariants.{Accepted, Rejected}
 use Rattle.rules.proofs.AfterPacket.{moved, after_more, after_last}
 use Rattle.rules.proofs.Good.{DumpIs, dump_out, dump_in, Apart, PlacesAre, places_keep, GoodIs, good_out, good_in}
 use Rattle.rules.proofs.Passed.{Tested, tests_passed}
 use Rattle.rules.proofs.Rules.{replicate_at, used_region, same_rules}
 use Rattle.rules.proofs.Round.{next_in_four}
+use Rattle.rules.specs.declared.Command.{Command}
 
 -- COMMANDS
 
 -- the size that a packet asks of a dump: a number of two bytes
-abbrev dump_size : Decoded → ℕ
-dump_size Unknown = 0
-dump_size (Known (Dump q)) = q.size
-dump_size (Known Cancel) = 0
-dump_size (Known (Load q)) = 0
-dump_size (Known (PoolStatistics i)) = 0
-dump_size (Known (SymbolValue n)) = 0
-dump_size (Known (DumpSymbol q)) = q.size
+abbrev dump_size : Option Command → ℕ
+dump_size None = 0
+dump_size (Some (Dump q)) = q.size
+dump_size (Some Cancel) = 0
+dump_size (Some (Load q)) = 0
+dump_size (Some (PoolStatistics i)) = 0
+dump_size (Some (SymbolValue n)) = 0
+dump_size (Some (DumpSymbol q)) = q.size
 
 dump_size_lem : (p : List ℕ) → AreBytes p → dump_size (decode p) ≤ 65535
 unfolding decode
@@ -144,19 +142,19 @@ module _ (s : State) (c : CommandArgs) (g : GoodIs s) where
       changed_good s g s.places ((s.replies + 1) % 16384) s.values (accepted_more s) s.refused
       g.places (omega arith) g.values (omega arith) g.refused
 
-  carried_good : (d : Decoded) → dump_size d ≤ 65535 → Tested s c d → GoodIs (carry_out s c (task_of c.symbols (name_in c.packet) d)).state
+  carried_good : (d : Option Command) → dump_size d ≤ 65535 → Tested s c d → GoodIs (carry_out s c (task_of c.symbols (name_in c.packet) d)).state
   unfolding field_rules
-  carried_good Unknown small h = refused_good s g c UnknownCode
-  carried_good (Known (Dump q)) small h =
+  carried_good None small h = refused_good s g c UnknownCode
+  carried_good (Some (Dump q)) small h =
       let r = requested q in
       dump_good r (new_dump_lem r small (range_fields true r (not-false _ h.laid.fields)) h.right) h.new h.place
-  carried_good (Known Cancel) small h = cancel_good h.busy
-  carried_good (Known (Load q)) small h = accepted_good s g s.places g.places
-  carried_good (Known (PoolStatistics i)) small h = replied_good i (blocks_of (pool_words s i c.image))
-  carried_good (Known (SymbolValue n)) small h =
+  carried_good (Some Cancel) small h = cancel_good h.busy
+  carried_good (Some (Load q)) small h = accepted_good s g s.places g.places
+  carried_good (Some (PoolStatistics i)) small h = replied_good i (blocks_of (pool_words s i c.image))
+  carried_good (Some (SymbolValue n)) small h =
       changed_good s g s.places s.replies ((s.values + 1) % 16384) (accepted_more s) s.refused
       g.places g.replies (omega arith) (omega arith) g.refused
-  carried_good (Known (DumpSymbol q)) small h =
+  carried_good (Some (DumpSymbol q)) small h =
       let r = range_by c.symbols (name_in c.packet) q in
       let b = address_fits (value_of c.symbols (name_in c.packet)) q.offset in
       dump_good r (new_dump_lem r small (range_fields b r (not-false _ h.laid.range)) h.right) h.new h.place
@@ -168,9 +166,9 @@ command_good s c bytes good = good_in (command_call s c).state (concluded (lowes
     g : GoodIs s
     g = good_out s good
 
-    concluded : (v : Verdict) → lowest (command_rows s c) ≡ v → GoodIs (conclude s c v).state
-    concluded (Rejected r) h = refused_good s g c r
-    concluded Accepted h = carried_good s c g (decode c.packet) (dump_size_lem c.packet bytes) (tests_passed s c h)
+    concluded : (v : Result (Unit {0}) Refusal) → lowest (command_rows s c) ≡ v → GoodIs (conclude s c v).state
+    concluded (Err r) h = refused_good s g c r
+    concluded (Ok tt) h = carried_good s c g (decode c.packet) (dump_size_lem c.packet bytes) (tests_passed s c h)
 
 -- SLOTS
 
@@ -222,9 +220,9 @@ pub slot_good : (s : State) (c : SlotArgs) → good_state s ≡ true → good_st
 unfolding slot_call
 slot_good s c good = good_in (slot_call s c).state (concluded (lowest (slot_rows s c)))
   where
-    concluded : (v : Verdict) → GoodIs (conclude_slot s c v).state
-    concluded (Rejected r) = good_out s good
-    concluded Accepted =
+    concluded : (v : Result (Unit {0}) Refusal) → GoodIs (conclude_slot s c v).state
+    concluded (Err r) = good_out s good
+    concluded (Ok tt) =
         served_good s c (good_out s good) (next_place s.places s.last) (context_at s.places (next_place s.places s.last))
         (next_in_four s.places s.last) refl
 

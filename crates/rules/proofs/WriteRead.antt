@@ -1,5 +1,6 @@
 -- What the command writer wrote is read back: the fields, and of the words beside them what the command uses.
 -- Assumes nothing.
+use Rattle.std.specs.Prelude.{Some, Ok}
 use mathlib.Core.Path.{◌≡◌, refl, ap, subst⁻¹, ◌∙◌}
 use mathlib.Core.Bool.{true}
 use mathlib.Core.List.{List}
@@ -17,9 +18,7 @@ use Rattle.rules.specs.Ground.{write_command, read_command, words_beside, fields
 use Rattle.rules.specs.ReadBack.{CommandFits, AreWords, UsedSame, WriteRead}
 use Rattle.rules.specs.declared.Command.{Command}
 use Rattle.rules.specs.declared.Command.TheVariants.{Dump, Cancel, Load, PoolStatistics, SymbolValue, DumpSymbol}
-use Rattle.rules.specs.declared.Decoded.TheVariants.{Known}
 use Rattle.rules.specs.declared.Header.{Header}
-use Rattle.rules.specs.declared.Reading.TheVariants.{Read}
 use Rattle.rules.specs.declared.Request.{Request}
 use Rattle.rules.specs.declared.SymbolRequest.{SymbolRequest}
 use Rattle.rules.proofs.Fits.{body_length, command_length}
@@ -65,23 +64,23 @@ module _ (h : Header) (ws : List ℕ) where
   unfolding command_bytes
   command_check k = sealed_check _ (omega arith) refl
 
-  pub command_known : (k : Command) → CommandFits k → decode (command_bytes h k ws) ≡ Known k
+  pub command_known : (k : Command) → CommandFits k → decode (command_bytes h k ws) ≡ Some k
   unfolding command_bytes sealed
   command_known (Dump q) fit =
-      let p = command_bytes h (Dump q) ws in decode_dump p refl ∙ ap (λ (r : Request). Known (Dump r)) (request_is p q (omega arith) (omega arith))
+      let p = command_bytes h (Dump q) ws in decode_dump p refl ∙ ap (λ (r : Request). Some (Dump r)) (request_is p q (omega arith) (omega arith))
   command_known Cancel fit = decode_cancel (command_bytes h Cancel ws) refl
   command_known (Load q) fit =
-      let p = command_bytes h (Load q) ws in decode_load p refl ∙ ap (λ (r : Request). Known (Load r)) (request_is p q (omega arith) (omega arith))
+      let p = command_bytes h (Load q) ws in decode_load p refl ∙ ap (λ (r : Request). Some (Load r)) (request_is p q (omega arith) (omega arith))
   command_known (PoolStatistics i) fit =
       let p = command_bytes h (PoolStatistics i) ws in
       let e : be_at 2 p 10 ≡ i = omega arith in
-      decode_pool p refl ∙ ap (λ (n : ℕ). Known (PoolStatistics n)) e
+      decode_pool p refl ∙ ap (λ (n : ℕ). Some (PoolStatistics n)) e
   command_known (SymbolValue n) fit = decode_value (command_bytes h (SymbolValue n) ws) refl
   command_known (DumpSymbol q) fit =
       let p = command_bytes h (DumpSymbol q) ws in
       let offset = by_name_tail h q ws 4 0 in
       let size = by_name_tail h q ws 2 4 in
-      decode_by_name p refl ∙ ap (λ (r : SymbolRequest). Known (DumpSymbol r)) (symbol_is p q refl (omega arith) (omega arith))
+      decode_by_name p refl ∙ ap (λ (r : SymbolRequest). Some (DumpSymbol r)) (symbol_is p q refl (omega arith) (omega arith))
 
   -- the bits that hold no field are 0
   command_zeros : (k : Command) → zero_rules (command_bytes h k ws) k ≡ true
@@ -120,12 +119,12 @@ module _ (h : Header) (k : Command) (ws buffer : List ℕ) (w : Writable h k buf
   unfolding command_bytes sealed
   command_header = header_is (command_bytes h k ws) h (omega arith) (omega arith) (omega arith)
 
-  command_read : CommandFits k → read_command (command_bytes h k ws) ≡ fields_read (command_bytes h k ws) (Known k)
+  command_read : CommandFits k → read_command (command_bytes h k ws) ≡ fields_read (command_bytes h k ws) (Some k)
   command_read fit =
       readable_in (command_bytes h k ws) k
       (record { box = command_box; known = command_known h ws k fit; bytes = command_length h k ws; fields = w.fields; zeros = command_zeros h ws k })
 
-  command_fields : CommandFits k → (read_command (command_bytes h k ws)).reading ≡ Read (record { header = h; command = k })
+  command_fields : CommandFits k → (read_command (command_bytes h k ws)).reading ≡ Ok (record { header = h; command = k })
   command_fields fit = rw (command_read fit, command_header)
 
 -- of the words beside a command, what it uses

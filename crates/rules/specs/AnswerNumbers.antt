@@ -1,17 +1,13 @@
 -- The numbers and lengths of answers (paper 01, "Result numbers"), each case by name: what else fixes the definitions of Results.antt and
 -- Ground.antt that turn an answer into a number, and the part of an outcome that a call returns.
-use Rattle.std.specs.Prelude.{◌≡◌, true, false}
+use Rattle.std.specs.Prelude.{◌≡◌, true, false, Ok, Err}
 use Rattle.rules.specs.Results.{number, counted, verdict_number, answer_number, answer_length}
 use Rattle.rules.specs.Commands.{Outcome, returned}
 use Rattle.rules.specs.Ground.{reading_number, packet_number}
-use Rattle.rules.specs.declared.Answer.TheVariants.{Refused, Done}
 use Rattle.rules.specs.declared.DumpPacket.{DumpPacket}
-use Rattle.rules.specs.declared.PacketReading.TheVariants.{NoPacket, Packet}
-use Rattle.rules.specs.declared.Reading.TheVariants.{Unread, Read}
 use Rattle.rules.specs.declared.Refusal.{Refusal}
 use Rattle.rules.specs.declared.Refusal.TheVariants.{BadState, ImageLength, BufferLength, Malformed, OtherApid, UnknownCode, PacketLength, OtherUnit, BadField, OutsideRegions, NoRight, TransactionBusy, PlacesBusy, NotBusy, PoolDamaged, NothingToSend, BadTable, UnknownSymbol, RunsOut}
 use Rattle.rules.specs.declared.Telecommand.{Telecommand}
-use Rattle.rules.specs.declared.Verdict.TheVariants.{Accepted, Rejected}
 use Rattle.rules.specs.declared.Written.{Written}
 
 pub record AnswerNumbers : Type 0 where
@@ -27,13 +23,13 @@ pub record AnswerNumbers : Type 0 where
       × (counted OutsideRegions ≡ true) × (counted RunsOut ≡ true) × (counted NoRight ≡ true) × (counted TransactionBusy ≡ true)
       × (counted PlacesBusy ≡ true) × (counted NotBusy ≡ true) × (counted PoolDamaged ≡ true) × (counted BadTable ≡ true) × (counted UnknownSymbol ≡ true)
   -- done is 0, with the length that was written; a refusal is its number, with length 0
-  pub done : (w : Written) → (answer_number (Done w) ≡ 0) × (answer_length (Done w) ≡ w.length)
-  pub refused : (r : Refusal) → (answer_number (Refused r) ≡ number r) × (answer_length (Refused r) ≡ 0)
-  pub started : (verdict_number Accepted ≡ 0) × ((r : Refusal) → verdict_number (Rejected r) ≡ number r)
+  pub done : (w : Written) → (answer_number (Ok w) ≡ 0) × (answer_length (Ok w) ≡ w.length)
+  pub refused : (r : Refusal) → (answer_number (Err r) ≡ number r) × (answer_length (Err r) ≡ 0)
+  pub started : (verdict_number (Ok tt) ≡ 0) × ((r : Refusal) → verdict_number (Err r) ≡ number r)
   -- the readers: 0 with the fields, and only then
-  pub command_read : (f : Telecommand) → reading_number (Read f) ≡ 0
-  pub command_unread : (r : Refusal) → reading_number (Unread r) ≡ number r
-  pub packet_read : (f : DumpPacket) → packet_number (Packet f) ≡ 0
-  pub packet_unread : (r : Refusal) → packet_number (NoPacket r) ≡ number r
+  pub command_read : (f : Telecommand) → reading_number (Ok f) ≡ 0
+  pub command_unread : (r : Refusal) → reading_number (Err r) ≡ number r
+  pub packet_read : (f : DumpPacket) → packet_number (Ok f) ≡ 0
+  pub packet_unread : (r : Refusal) → packet_number (Err r) ≡ number r
   -- a call returns the answer and the state of its outcome
   pub returns : (o : Outcome) → ((returned o).answer ≡ o.answer) × ((returned o).state ≡ o.state)

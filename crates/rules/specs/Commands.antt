@@ -1,5 +1,5 @@
 -- Paper 01, "Result numbers" and "What each command does", and paper 02, A2 and A5: the command call, from all that is lent to all that is left.
-use Rattle.std.specs.Prelude.{Bool, true, false, not, cond, ◌&&◌, List, [], ◌∷◌, ◌++◌, ℕ, ◌+◌, ◌%◌, leb, eqb, length, set, take}
+use Rattle.std.specs.Prelude.{Bool, true, false, not, cond, ◌&&◌, List, [], ◌∷◌, ◌++◌, ℕ, ◌+◌, ◌%◌, leb, eqb, length, set, take, Option, Some, None, Result, Ok, Err}
 use Rattle.lists.specs.Below.{any_below, first_below}
 use Rattle.lists.specs.Splice.{splice}
 use Rattle.rules.specs.Regions.{aligned, in_one_region, load_right, dump_right, starts_inside, runs_out, image_index, words_of}
@@ -21,14 +21,9 @@ use Rattle.rules.specs.declared.Command.TheVariants.{Dump, Cancel, Load, PoolSta
 use Rattle.rules.specs.declared.SymbolRequest.{SymbolRequest}
 use Rattle.rules.specs.declared.Task.{Task}
 use Rattle.rules.specs.declared.Task.TheVariants.{Nothing, DumpRange, CancelDump, LoadRange, CountPool, TellValue}
-use Rattle.rules.specs.declared.Decoded.{Decoded}
-use Rattle.rules.specs.declared.Decoded.TheVariants.{Unknown, Known}
 use Rattle.rules.specs.declared.Refusal.{Refusal}
 use Rattle.rules.specs.declared.Refusal.TheVariants.{Malformed, OtherApid, UnknownCode, PacketLength, OtherUnit, BadField, OutsideRegions, NoRight, TransactionBusy, PlacesBusy, NotBusy, PoolDamaged, BadTable, UnknownSymbol, RunsOut}
-use Rattle.rules.specs.declared.Verdict.{Verdict}
-use Rattle.rules.specs.declared.Verdict.TheVariants.{Accepted, Rejected}
-use Rattle.rules.specs.declared.Answer.{Answer}
-use Rattle.rules.specs.declared.Answer.TheVariants.{Refused, Done}
+use Rattle.rules.specs.declared.Written.{Written}
 
 -- what a command call is lent beside the state
 pub record CommandArgs : Type 0 where
@@ -39,7 +34,7 @@ pub record CommandArgs : Type 0 where
 
 -- what a call answers, and all that it leaves: the state, the image and its buffer
 pub record Outcome : Type 0 where
-  pub answer : Answer
+  pub answer : Result Written Refusal
   pub state : State
   pub image : List ℕ
   pub buffer : List ℕ
@@ -55,14 +50,14 @@ abbrev pub range_by : List ℕ → List ℕ → SymbolRequest → Range
 range_by symbols name q = record { start = record { 0 = address_of (value_of symbols name) q.offset }; words = q.size }
 
 -- a command's task: a dump by name is the dump of the range that its name resolves to
-abbrev pub task_of : List ℕ → List ℕ → Decoded → Task
-task_of symbols name Unknown = Nothing
-task_of symbols name (Known (Dump q)) = DumpRange (requested q)
-task_of symbols name (Known Cancel) = CancelDump
-task_of symbols name (Known (Load q)) = LoadRange (requested q)
-task_of symbols name (Known (PoolStatistics i)) = CountPool i
-task_of symbols name (Known (SymbolValue n)) = TellValue (value_of symbols name)
-task_of symbols name (Known (DumpSymbol q)) = DumpRange (range_by symbols name q)
+abbrev pub task_of : List ℕ → List ℕ → Option Command → Task
+task_of symbols name None = Nothing
+task_of symbols name (Some (Dump q)) = DumpRange (requested q)
+task_of symbols name (Some Cancel) = CancelDump
+task_of symbols name (Some (Load q)) = LoadRange (requested q)
+task_of symbols name (Some (PoolStatistics i)) = CountPool i
+task_of symbols name (Some (SymbolValue n)) = TellValue (value_of symbols name)
+task_of symbols name (Some (DumpSymbol q)) = DumpRange (range_by symbols name q)
 
 unfoldable pub task : CommandArgs → Task
 task c = task_of c.symbols (name_in c.packet) (decode c.packet)
@@ -70,27 +65,27 @@ task c = task_of c.symbols (name_in c.packet) (decode c.packet)
 -- THE TESTS, one for each number that only some commands can get
 
 -- 6: unknown function code
-abbrev pub is_unknown : Decoded → Bool
-is_unknown Unknown = true
-is_unknown (Known k) = false
+abbrev pub is_unknown : Option Command → Bool
+is_unknown None = true
+is_unknown (Some k) = false
 
 -- 7: packet length wrong for its code
-abbrev pub wrong_length : List ℕ → Decoded → Bool
-wrong_length p Unknown = false
-wrong_length p (Known k) = not (eqb (length p) (packet_length k))
+abbrev pub wrong_length : List ℕ → Option Command → Bool
+wrong_length p None = false
+wrong_length p (Some k) = not (eqb (length p) (packet_length k))
 
 -- a command that names a symbol
-abbrev pub names_symbol : Decoded → Bool
-names_symbol Unknown = false
-names_symbol (Known (Dump q)) = false
-names_symbol (Known Cancel) = false
-names_symbol (Known (Load q)) = false
-names_symbol (Known (PoolStatistics i)) = false
-names_symbol (Known (SymbolValue n)) = true
-names_symbol (Known (DumpSymbol q)) = true
+abbrev pub names_symbol : Option Command → Bool
+names_symbol None = false
+names_symbol (Some (Dump q)) = false
+names_symbol (Some Cancel) = false
+names_symbol (Some (Load q)) = false
+names_symbol (Some (PoolStatistics i)) = false
+names_symbol (Some (SymbolValue n)) = true
+names_symbol (Some (DumpSymbol q)) = true
 
 -- 17: a symbol is named, and the symbol table is none
-abbrev pub no_table : List ℕ → Decoded → Bool
+abbrev pub no_table : List ℕ → Option Command → Bool
 no_table symbols d = names_symbol d && not (symbol_table symbols)
 
 -- the first 9. The size of a dump by name is not tested here, but with its address.
@@ -102,23 +97,23 @@ layout_rules p (PoolStatistics i) = field_rules (PoolStatistics i)
 layout_rules p (SymbolValue n) = name_fits n && zero_rules p (SymbolValue n)
 layout_rules p (DumpSymbol q) = name_fits q.name && zero_rules p (DumpSymbol q)
 
-abbrev pub wrong_field : List ℕ → Decoded → Bool
-wrong_field p Unknown = false
-wrong_field p (Known k) = not (layout_rules p k)
+abbrev pub wrong_field : List ℕ → Option Command → Bool
+wrong_field p None = false
+wrong_field p (Some k) = not (layout_rules p k)
 
 -- 18: the table has no such name
-abbrev pub unknown_name : List ℕ → List ℕ → Decoded → Bool
+abbrev pub unknown_name : List ℕ → List ℕ → Option Command → Bool
 unknown_name symbols name d = names_symbol d && not (has_name symbols name)
 
 -- the second 9, of a dump by name: an address below 0 or at 2^32 and up, or not a multiple of 4; size 0
-abbrev pub wrong_range : List ℕ → List ℕ → Decoded → Bool
-wrong_range symbols name Unknown = false
-wrong_range symbols name (Known (Dump q)) = false
-wrong_range symbols name (Known Cancel) = false
-wrong_range symbols name (Known (Load q)) = false
-wrong_range symbols name (Known (PoolStatistics i)) = false
-wrong_range symbols name (Known (SymbolValue n)) = false
-wrong_range symbols name (Known (DumpSymbol q)) =
+abbrev pub wrong_range : List ℕ → List ℕ → Option Command → Bool
+wrong_range symbols name None = false
+wrong_range symbols name (Some (Dump q)) = false
+wrong_range symbols name (Some Cancel) = false
+wrong_range symbols name (Some (Load q)) = false
+wrong_range symbols name (Some (PoolStatistics i)) = false
+wrong_range symbols name (Some (SymbolValue n)) = false
+wrong_range symbols name (Some (DumpSymbol q)) =
     not (address_fits (value_of symbols name) q.offset && aligned (range_by symbols name q) && leb 1 q.size)
 
 -- 10: the range's first word is in no region, or no such pool
@@ -251,7 +246,7 @@ refused_more s = (s.refused + 1) % 65536
 abbrev pub refused_command : State → CommandArgs → Refusal → Outcome
 refused_command s c r =
     record {
-      answer = Refused r;
+      answer = Err r;
       state = cond (counted r) (changed s s.places s.replies s.values s.accepted (refused_more s)) s;
       image = c.image;
       buffer = c.reply;
@@ -277,7 +272,7 @@ abbrev pub replied : State → CommandArgs → ℕ → Walk → Outcome
 replied s c i damaged = refused_command s c PoolDamaged
 replied s c i (whole bs) =
     record {
-      answer = Done (record { length = reply_length });
+      answer = Ok (record { length = reply_length });
       state = changed s s.places ((s.replies + 1) % 16384) s.values (accepted_more s) s.refused;
       image = c.image;
       buffer = splice c.reply 0 (reply_bytes s.replies s.unit (command_transaction c.packet) i bs);
@@ -287,7 +282,7 @@ replied s c i (whole bs) =
 abbrev pub told : State → CommandArgs → ℕ → Outcome
 told s c v =
     record {
-      answer = Done (record { length = value_length });
+      answer = Ok (record { length = value_length });
       state = changed s s.places s.replies ((s.values + 1) % 16384) (accepted_more s) s.refused;
       image = c.image;
       buffer = splice c.reply 0 (value_bytes s.values s.unit (command_transaction c.packet) v);
@@ -298,7 +293,7 @@ abbrev pub carry_out : State → CommandArgs → Task → Outcome
 carry_out s c Nothing = refused_command s c UnknownCode
 carry_out s c (DumpRange r) =
     record {
-      answer = Done (record { length = 0 });
+      answer = Ok (record { length = 0 });
       state =
           changed s
           (set_context s.places (first_idle s.places) (Busy (new_dump (command_transaction c.packet) r)))
@@ -308,7 +303,7 @@ carry_out s c (DumpRange r) =
     }
 carry_out s c CancelDump =
     record {
-      answer = Done (record { length = 0 });
+      answer = Ok (record { length = 0 });
       state =
           changed s (set_context s.places (first_with (command_transaction c.packet) s.places) Idle)
           s.replies s.values (accepted_more s) s.refused;
@@ -317,7 +312,7 @@ carry_out s c CancelDump =
     }
 carry_out s c (LoadRange r) =
     record {
-      answer = Done (record { length = 0 });
+      answer = Ok (record { length = 0 });
       state = changed s s.places s.replies s.values (accepted_more s) s.refused;
       image = splice c.image (image_index s.regions s.count r).0 (take r.words (data_words c.packet));
       buffer = c.reply;
@@ -325,9 +320,9 @@ carry_out s c (LoadRange r) =
 carry_out s c (CountPool i) = replied s c i (blocks_of (pool_words s i c.image))
 carry_out s c (TellValue v) = told s c v
 
-abbrev pub conclude : State → CommandArgs → Verdict → Outcome
-conclude s c (Rejected r) = refused_command s c r
-conclude s c Accepted = carry_out s c (task c)
+abbrev pub conclude : State → CommandArgs → Result (Unit {0}) Refusal → Outcome
+conclude s c (Err r) = refused_command s c r
+conclude s c (Ok tt) = carry_out s c (task c)
 
 -- THE COMMAND CALL
 unfoldable pub command_call : State → CommandArgs → Outcome

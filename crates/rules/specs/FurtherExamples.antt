@@ -1,5 +1,5 @@
 -- Examples beyond paper 01's: cases that E1 to E12 leave out. Unless said otherwise as there, the box is unit 2 and fresh.
-use Rattle.std.specs.Prelude.{◌≡◌, Bool, true, false, List, [], ◌∷◌, ◌++◌, map, ℕ, drop, replicate}
+use Rattle.std.specs.Prelude.{◌≡◌, Bool, true, false, List, [], ◌∷◌, ◌++◌, map, ℕ, drop, replicate, Ok}
 use Rattle.rules.specs.Regions.{no_range}
 use Rattle.rules.specs.States.{start_up}
 use Rattle.rules.specs.Packets.{command_bytes}
@@ -11,8 +11,6 @@ use Rattle.rules.specs.Examples.{range, both, box, fresh, header, dump, load, se
 use Rattle.rules.specs.declared.Command.{Command}
 use Rattle.rules.specs.declared.Command.TheVariants.{Dump, Cancel, Load, PoolStatistics}
 use Rattle.rules.specs.declared.Header.{Header}
-use Rattle.rules.specs.declared.PacketReading.TheVariants.{Packet}
-use Rattle.rules.specs.declared.Reading.TheVariants.{Read}
 use Rattle.rules.specs.declared.Region.{Region}
 use Rattle.rules.specs.declared.State.{State}
 
@@ -114,7 +112,7 @@ pub record FurtherExamples : Type 0 where
       ∷ []
   -- the four commands, written and read
   pub read : map (λ k. (read_command (command_bytes (for_big 300 0xFED) k (replicate 12 9))).reading) commands
-      ≡ map (λ k. Read (record { header = for_big 300 0xFED; command = k })) commands
+      ≡ map (λ k. Ok (record { header = for_big 300 0xFED; command = k })) commands
   pub read_words : (read_command (command_bytes (for_big 0 1) (Load (record { size = 2; address = record { 0 = 0x1004 } })) (replicate 12 9))).words
       ≡ 9 ∷ 9 ∷ replicate 10 0
   pub unread : reading_number (read_command (command_bytes (for_big 0 1) (PoolStatistics 2) [])).reading ≡ 9
@@ -125,6 +123,6 @@ pub record FurtherExamples : Type 0 where
   pub left : (write_command (for_big 0 1) Cancel [] (replicate 12 9)).buffer ≡ command_bytes (for_big 0 1) Cancel [] ++ 9 ∷ 9 ∷ []
   -- a dump packet's fields and data, read
   pub fields : map (λ b. (read_packet b).reading) (drop 3 (written big (ask 0x801 (dump_of 1 0x2000) ∷ slot_at memory 3 ∷ ask 0x802 (dump_of 1 0x2004) ∷ slot_at memory 7 ∷ [])))
-      ≡ Packet (record { header = for_big 1 0x802; tick = 7; range = range 0x2004 1; here = record { 0 = 0x2004 }; words = 1 }) ∷ []
+      ≡ Ok (record { header = for_big 1 0x802; tick = 7; range = range 0x2004 1; here = record { 0 = 0x2004 }; words = 1 }) ∷ []
   pub part : map (λ b. (read_packet b).part) (written usual (send four (dump 0x123 2 0x1004) ∷ slot_at four 5 ∷ []))
       ≡ [] ∷ (0x22 ∷ 0x22 ∷ 0x22 ∷ 0x22 ∷ 0x33 ∷ 0x33 ∷ 0x33 ∷ 0x33 ∷ []) ∷ []

@@ -1,5 +1,5 @@
 -- Paper 01, "Ground reader and writer", and paper 02, A2: the command writer, the command reader and the dump packet reader.
-use Rattle.std.specs.Prelude.{Bool, false, ◌&&◌, not, List, [], ◌∷◌, ◌++◌, ℕ, ◌+◌, ◌*◌, ◌-◌, ◌/◌, ◌%◌, min, leb, ltb, eqb, length, drop, replicate}
+use Rattle.std.specs.Prelude.{Bool, false, ◌&&◌, not, List, [], ◌∷◌, ◌++◌, ℕ, ◌+◌, ◌*◌, ◌-◌, ◌/◌, ◌%◌, min, leb, ltb, eqb, length, drop, replicate, Option, Some, None, Result, Ok, Err}
 use Rattle.lists.specs.Splice.{splice}
 use Rattle.wire.specs.Bytes.{be_at}
 use Rattle.rules.specs.Regions.{start_of, end_of, aligned}
@@ -7,25 +7,17 @@ use Rattle.rules.specs.States.{piece_words}
 use Rattle.rules.specs.Packets.{primary_rules, apid_of, header_at, command_apid, well_formed, decode, data_words, packet_length, field_rules, zero_rules, name_words, command_bytes}
 use Rattle.rules.specs.Commands.{is_unknown, wrong_length}
 use Rattle.rules.specs.Slots.{dump_apid, packet_header}
-use Rattle.rules.specs.Results.{number, Row, row, lowest}
+use Rattle.rules.specs.Results.{number_of, Row, row, lowest}
 use Rattle.rules.specs.declared.Header.{Header}
 use Rattle.rules.specs.declared.Range.{Range}
 use Rattle.rules.specs.declared.Command.{Command}
 use Rattle.rules.specs.declared.Command.TheVariants.{Dump, Cancel, Load, PoolStatistics, SymbolValue, DumpSymbol}
-use Rattle.rules.specs.declared.Decoded.{Decoded}
-use Rattle.rules.specs.declared.Decoded.TheVariants.{Unknown, Known}
 use Rattle.rules.specs.declared.Refusal.{Refusal}
 use Rattle.rules.specs.declared.Refusal.TheVariants.{BufferLength, Malformed, OtherApid, UnknownCode, PacketLength, BadField}
-use Rattle.rules.specs.declared.Verdict.{Verdict}
-use Rattle.rules.specs.declared.Verdict.TheVariants.{Accepted, Rejected}
-use Rattle.rules.specs.declared.Answer.{Answer}
-use Rattle.rules.specs.declared.Answer.TheVariants.{Refused, Done}
-use Rattle.rules.specs.declared.Reading.{Reading}
-use Rattle.rules.specs.declared.Reading.TheVariants.{Unread, Read}
 use Rattle.rules.specs.declared.CommandRead.{CommandRead}
 use Rattle.rules.specs.declared.DumpPacket.{DumpPacket}
-use Rattle.rules.specs.declared.PacketReading.{PacketReading}
-use Rattle.rules.specs.declared.PacketReading.TheVariants.{NoPacket, Packet}
+use Rattle.rules.specs.declared.Written.{Written}
+use Rattle.rules.specs.declared.Telecommand.{Telecommand}
 
 -- THE COMMAND WRITER
 
@@ -40,13 +32,13 @@ writer_rows h k buffer =
 
 -- what the writer answers, and the buffer that it leaves
 pub record Wrote : Type 0 where
-  pub answer : Answer
+  pub answer : Result Written Refusal
   pub buffer : List ℕ
 
-abbrev pub conclude_write : Header → Command → List ℕ → List ℕ → Verdict → Wrote
-conclude_write h k ws buffer (Rejected r) = record { answer = Refused r; buffer = buffer }
-conclude_write h k ws buffer Accepted =
-    record { answer = Done (record { length = packet_length k }); buffer = splice buffer 0 (command_bytes h k ws) }
+abbrev pub conclude_write : Header → Command → List ℕ → List ℕ → Result (Unit {0}) Refusal → Wrote
+conclude_write h k ws buffer (Err r) = record { answer = Err r; buffer = buffer }
+conclude_write h k ws buffer (Ok tt) =
+    record { answer = Ok (record { length = packet_length k }); buffer = splice buffer 0 (command_bytes h k ws) }
 
 unfoldable pub write_command : Header → Command → List ℕ → List ℕ → Wrote
 write_command h k ws buffer = conclude_write h k ws buffer (lowest (writer_rows h k buffer))
@@ -54,9 +46,9 @@ write_command h k ws buffer = conclude_write h k ws buffer (lowest (writer_rows 
 -- THE COMMAND READER
 
 -- 9, as far as it can be seen without a symbol table
-abbrev pub unreadable : List ℕ → Decoded → Bool
-unreadable p Unknown = false
-unreadable p (Known k) = not (field_rules k && zero_rules p k)
+abbrev pub unreadable : List ℕ → Option Command → Bool
+unreadable p None = false
+unreadable p (Some k) = not (field_rules k && zero_rules p k)
 
 -- the reader's rows: 4, 5, 6, 7 and 9
 unfoldable pub reader_rows : List ℕ → List Row
@@ -69,15 +61,14 @@ reader_rows p =
     ∷ []
 
 -- the number of the reader's answer; the twelve words beside it are the eleven data words of a load and 0, those of a symbol's name, or zeros
-abbrev pub reading_number : Reading → ℕ
-reading_number (Unread r) = number r
-reading_number (Read f) = 0
+abbrev pub reading_number : Result Telecommand Refusal → ℕ
+reading_number a = number_of a
 
 abbrev pub no_words : List ℕ
 no_words = replicate 12 0
 
 abbrev pub unread : Refusal → CommandRead
-unread r = record { reading = Unread r; words = no_words }
+unread r = record { reading = Err r; words = no_words }
 
 abbrev pub words_beside : List ℕ → Command → List ℕ
 words_beside p (Dump q) = no_words
@@ -87,13 +78,13 @@ words_beside p (PoolStatistics i) = no_words
 words_beside p (SymbolValue n) = name_words p
 words_beside p (DumpSymbol q) = name_words p
 
-abbrev pub fields_read : List ℕ → Decoded → CommandRead
-fields_read p Unknown = unread UnknownCode
-fields_read p (Known k) = record { reading = Read (record { header = header_at p 8; command = k }); words = words_beside p k }
+abbrev pub fields_read : List ℕ → Option Command → CommandRead
+fields_read p None = unread UnknownCode
+fields_read p (Some k) = record { reading = Ok (record { header = header_at p 8; command = k }); words = words_beside p k }
 
-abbrev pub conclude_read : List ℕ → Verdict → CommandRead
-conclude_read p (Rejected r) = unread r
-conclude_read p Accepted = fields_read p (decode p)
+abbrev pub conclude_read : List ℕ → Result (Unit {0}) Refusal → CommandRead
+conclude_read p (Err r) = unread r
+conclude_read p (Ok tt) = fields_read p (decode p)
 
 unfoldable pub read_command : List ℕ → CommandRead
 read_command p = conclude_read p (lowest (reader_rows p))
@@ -137,16 +128,15 @@ packet_rows p =
 
 -- what the reader answers, and the part of the packet that it hands back: empty on a refusal
 pub record PacketRead : Type 0 where
-  pub reading : PacketReading
+  pub reading : Result DumpPacket Refusal
   pub part : List ℕ
 
-abbrev pub packet_number : PacketReading → ℕ
-packet_number (NoPacket r) = number r
-packet_number (Packet f) = 0
+abbrev pub packet_number : Result DumpPacket Refusal → ℕ
+packet_number a = number_of a
 
-abbrev pub conclude_packet : List ℕ → Verdict → PacketRead
-conclude_packet p (Rejected r) = record { reading = NoPacket r; part = [] }
-conclude_packet p Accepted = record { reading = Packet (packet_fields p); part = drop packet_header p }
+abbrev pub conclude_packet : List ℕ → Result (Unit {0}) Refusal → PacketRead
+conclude_packet p (Err r) = record { reading = Err r; part = [] }
+conclude_packet p (Ok tt) = record { reading = Ok (packet_fields p); part = drop packet_header p }
 
 unfoldable pub read_packet : List ℕ → PacketRead
 read_packet p = conclude_packet p (lowest (packet_rows p))

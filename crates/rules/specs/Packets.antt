@@ -1,7 +1,7 @@
 -- Paper 01, "Command packets": the primary header of CCSDS 133.0-B, the check byte, and the command layouts;
 -- paper 02, A2: those of codes 8 and 9.
 -- A byte past a packet's end reads as 0: no test that decides anything rests on one, since numbers 4 and 7 come first.
-use Rattle.std.specs.Prelude.{Bool, true, ◌&&◌, cond, List, [], ◌∷◌, ◌++◌, ℕ, ◌+◌, ◌*◌, ◌-◌, ◌/◌, ◌%◌, leb, eqb, length, get_or, set, take, drop, replicate}
+use Rattle.std.specs.Prelude.{Bool, true, ◌&&◌, cond, List, [], ◌∷◌, ◌++◌, ℕ, ◌+◌, ◌*◌, ◌-◌, ◌/◌, ◌%◌, leb, eqb, length, get_or, set, take, drop, replicate, Option, Some, None}
 use Rattle.std.specs.Int.Bits.{bit_xor}
 use Rattle.wire.specs.Bytes.{be, be_at, word_bytes, words_at}
 use Rattle.wire.specs.Xor.{xor_all}
@@ -12,8 +12,6 @@ use Rattle.rules.specs.declared.Request.{Request}
 use Rattle.rules.specs.declared.SymbolRequest.{SymbolRequest}
 use Rattle.rules.specs.declared.Command.{Command}
 use Rattle.rules.specs.declared.Command.TheVariants.{Dump, Cancel, Load, PoolStatistics, SymbolValue, DumpSymbol}
-use Rattle.rules.specs.declared.Decoded.{Decoded}
-use Rattle.rules.specs.declared.Decoded.TheVariants.{Unknown, Known}
 
 -- THE PRIMARY HEADER: six bytes
 
@@ -98,14 +96,14 @@ abbrev pub symbol_request_of : List ℕ → SymbolRequest
 symbol_request_of p = record { name = name_size_of p; offset = be_at 4 p 60; size = be_at 2 p 64 }
 
 -- the command of a packet: by its function code, with its fields as they stand in the bytes
-unfoldable pub decode : List ℕ → Decoded
+unfoldable pub decode : List ℕ → Option Command
 decode p =
-    cond (eqb (function_code_of p) 0) (Known (Dump (request_of p)))
-    (cond (eqb (function_code_of p) 1) (Known Cancel)
-    (cond (eqb (function_code_of p) 4) (Known (Load (request_of p)))
-    (cond (eqb (function_code_of p) 7) (Known (PoolStatistics (be_at 2 p 10)))
-    (cond (eqb (function_code_of p) 8) (Known (SymbolValue (name_size_of p)))
-    (cond (eqb (function_code_of p) 9) (Known (DumpSymbol (symbol_request_of p))) Unknown)))))
+    cond (eqb (function_code_of p) 0) (Some (Dump (request_of p)))
+    (cond (eqb (function_code_of p) 1) (Some Cancel)
+    (cond (eqb (function_code_of p) 4) (Some (Load (request_of p)))
+    (cond (eqb (function_code_of p) 7) (Some (PoolStatistics (be_at 2 p 10)))
+    (cond (eqb (function_code_of p) 8) (Some (SymbolValue (name_size_of p)))
+    (cond (eqb (function_code_of p) 9) (Some (DumpSymbol (symbol_request_of p))) None)))))
 
 -- the eleven data words of a load
 abbrev pub data_words : List ℕ → List ℕ

@@ -1,6 +1,6 @@
 -- PACKETS IN PLAIN BYTES: what each definition that reads or writes a field says of the packet's bytes, by their offset (paper 01, "Command
 -- packets", "Telemetry slots", "Ground reader and writer"; paper 02, A2). The calls and the demands share those definitions; this is what else fixes them.
-use Rattle.std.specs.Prelude.{◌≡◌, ◌≢◌, ◌↔◌, List, [], ◌∷◌, ℕ, ◌+◌, ◌*◌, ◌-◌, ◌/◌, ◌%◌, ◌≤◌, ◌<◌, min, length, get_or, take, drop, replicate}
+use Rattle.std.specs.Prelude.{◌≡◌, ◌≢◌, ◌↔◌, List, [], ◌∷◌, ℕ, ◌+◌, ◌*◌, ◌-◌, ◌/◌, ◌%◌, ◌≤◌, ◌<◌, min, length, get_or, take, drop, replicate, Some, None, Ok}
 use Rattle.wire.specs.Bytes.{AreBytes}
 use Rattle.wire.specs.ByByte.{byte, two, four}
 use Rattle.wire.specs.Xor.{xor_all}
@@ -18,11 +18,8 @@ use Rattle.rules.specs.ReadBack.{CommandFits, AreWords, letter, SlotFits, packet
 use Rattle.rules.specs.declared.ActiveDump.{ActiveDump}
 use Rattle.rules.specs.declared.Command.{Command}
 use Rattle.rules.specs.declared.Command.TheVariants.{Dump, Cancel, Load, PoolStatistics, SymbolValue, DumpSymbol}
-use Rattle.rules.specs.declared.Decoded.TheVariants.{Unknown, Known}
 use Rattle.rules.specs.declared.DumpPacket.{DumpPacket}
 use Rattle.rules.specs.declared.Header.{Header}
-use Rattle.rules.specs.declared.PacketReading.TheVariants.{Packet}
-use Rattle.rules.specs.declared.Reading.TheVariants.{Read}
 use Rattle.rules.specs.declared.Request.{Request}
 use Rattle.rules.specs.declared.State.{State}
 use Rattle.rules.specs.declared.SymbolRequest.{SymbolRequest}
@@ -55,14 +52,14 @@ pub record CommandFields (p : List ℕ) : Type 0 where
   pub range : range_of p ≡ record { start = record { 0 = four p 12 }; words = two p 10 }
   pub pool : pool_of p ≡ two p 10
   -- the command, by the code
-  pub dump : byte p 6 % 128 ≡ 0 → decode p ≡ Known (Dump (request_at p))
-  pub cancel : byte p 6 % 128 ≡ 1 → decode p ≡ Known Cancel
-  pub load : byte p 6 % 128 ≡ 4 → decode p ≡ Known (Load (request_at p))
-  pub statistics : byte p 6 % 128 ≡ 7 → decode p ≡ Known (PoolStatistics (two p 10))
-  pub value : byte p 6 % 128 ≡ 8 → decode p ≡ Known (SymbolValue (byte p 10))
-  pub by_name : byte p 6 % 128 ≡ 9 → decode p ≡ Known (DumpSymbol (record { name = byte p 10; offset = four p 60; size = two p 64 }))
+  pub dump : byte p 6 % 128 ≡ 0 → decode p ≡ Some (Dump (request_at p))
+  pub cancel : byte p 6 % 128 ≡ 1 → decode p ≡ Some Cancel
+  pub load : byte p 6 % 128 ≡ 4 → decode p ≡ Some (Load (request_at p))
+  pub statistics : byte p 6 % 128 ≡ 7 → decode p ≡ Some (PoolStatistics (two p 10))
+  pub value : byte p 6 % 128 ≡ 8 → decode p ≡ Some (SymbolValue (byte p 10))
+  pub by_name : byte p 6 % 128 ≡ 9 → decode p ≡ Some (DumpSymbol (record { name = byte p 10; offset = four p 60; size = two p 64 }))
   pub other : byte p 6 % 128 ≢ 0 → byte p 6 % 128 ≢ 1 → byte p 6 % 128 ≢ 4 → byte p 6 % 128 ≢ 7 → byte p 6 % 128 ≢ 8 → byte p 6 % 128 ≢ 9
-      → decode p ≡ Unknown
+      → decode p ≡ None
   -- the eleven data words of a load
   pub words : length (data_words p) ≡ 11
   pub word : (k : ℕ) → k < 11 → get_or (data_words p) k 0 ≡ four p (16 + 4 * k)
@@ -128,7 +125,7 @@ Beside (DumpSymbol q) p ws = NameBeside p ws
 pub record CommandGiven (p : List ℕ) (f : Telecommand) (ws : List ℕ) : Type 0 where
   pub header : f.header
       ≡ record { count = byte p 2 % 64 * 256 + byte p 3; unit = byte p 8 / 16; transaction = byte p 8 % 16 * 256 + byte p 9 }
-  pub command : decode p ≡ Known f.command
+  pub command : decode p ≡ Some f.command
   pub words : Beside f.command p ws
 
 -- DUMP PACKETS, WRITTEN AND READ
@@ -187,6 +184,6 @@ pub record PlainBytes : Type 0 where
   pub command_written : (h : Header) (k : Command) (ws buffer : List ℕ) → CommandFits k → AreWords ws
       → answer_number (write_command h k ws buffer).answer ≡ 0
       → CommandWritten h k ws (take (answer_length (write_command h k ws buffer).answer) (write_command h k ws buffer).buffer)
-  pub command_read : (p : List ℕ) (f : Telecommand) → AreBytes p → (read_command p).reading ≡ Read f → CommandGiven p f (read_command p).words
+  pub command_read : (p : List ℕ) (f : Telecommand) → AreBytes p → (read_command p).reading ≡ Ok f → CommandGiven p f (read_command p).words
   pub packet_written : (s : State) (c : SlotArgs) → SlotFits s c → (x : SlotDone s c (slot_call s c)) → PacketWritten s c x.dump (packet_of s c)
-  pub packet_read : (p : List ℕ) (f : DumpPacket) → AreBytes p → (read_packet p).reading ≡ Packet f → PacketGiven p f (read_packet p).part
+  pub packet_read : (p : List ℕ) (f : DumpPacket) → AreBytes p → (read_packet p).reading ≡ Ok f → PacketGiven p f (read_packet p).part

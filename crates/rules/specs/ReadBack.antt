@@ -1,6 +1,6 @@
 -- PACKETS ARE WRITTEN AND READ BACK AS LAID DOWN (demand 2; paper 01, "Ground reader and writer"): the command writer and reader undo each
 -- other, and the dump packet reader accepts a packet exactly if some box with a good state has a slot that writes it.
-use Rattle.std.specs.Prelude.{◌≡◌, ◌↔◌, true, List, ℕ, ◌+◌, ◌*◌, ◌≤◌, ◌<◌, length, get_or, take}
+use Rattle.std.specs.Prelude.{◌≡◌, ◌↔◌, true, List, ℕ, ◌+◌, ◌*◌, ◌≤◌, ◌<◌, length, get_or, take, Ok}
 use Rattle.lists.specs.Splice.{splice}
 use Rattle.wire.specs.Bytes.{AreBytes, word_bytes}
 use Rattle.rules.specs.Regions.{start_of, image_length}
@@ -15,8 +15,6 @@ use Rattle.rules.specs.declared.Command.{Command}
 use Rattle.rules.specs.declared.Command.TheVariants.{Dump, Cancel, Load, PoolStatistics, SymbolValue, DumpSymbol}
 use Rattle.rules.specs.declared.DumpPacket.{DumpPacket}
 use Rattle.rules.specs.declared.Header.{Header}
-use Rattle.rules.specs.declared.PacketReading.TheVariants.{Packet}
-use Rattle.rules.specs.declared.Reading.TheVariants.{Read}
 use Rattle.rules.specs.declared.Request.{Request}
 use Rattle.rules.specs.declared.State.{State}
 
@@ -69,7 +67,7 @@ pub record Writes (h : Header) (k : Command) (buffer : List ℕ) : Type 0 where
 
 -- what the writer wrote, read: the fields, and the used words
 pub record WriteRead (h : Header) (k : Command) (ws p : List ℕ) : Type 0 where
-  pub fields : (read_command p).reading ≡ Read (record { header = h; command = k })
+  pub fields : (read_command p).reading ≡ Ok (record { header = h; command = k })
   pub words : UsedSame k (read_command p).words ws
 
 -- what the reader read, written: the bytes, exactly if the unused data words of a load, or bytes of a name field, are 0
@@ -111,13 +109,13 @@ pub record ReadBack : Type 0 where
   pub write_read : (h : Header) (k : Command) (ws buffer : List ℕ) → CommandFits k → AreWords ws
       → answer_number (write_command h k ws buffer).answer ≡ 0
       → WriteRead h k ws (take (packet_length k) (write_command h k ws buffer).buffer)
-  pub read_write : (h : Header) (k : Command) (p buffer : List ℕ) → AreBytes p → (read_command p).reading ≡ Read (record { header = h; command = k })
+  pub read_write : (h : Header) (k : Command) (p buffer : List ℕ) → AreBytes p → (read_command p).reading ≡ Ok (record { header = h; command = k })
       → length p ≤ length buffer
       → (answer_number (write_command h k (read_command p).words buffer).answer ≡ 0) × ReadWrite h k p buffer
   -- what a slot writes is accepted, and gives back the fields and the data that the slot put there
   pub slot_read : (s : State) (c : SlotArgs) → SlotFits s c → answer_number (slot_call s c).answer ≡ 0
       → (d : SlotDone s c (slot_call s c))
-      × ((read_packet (packet_of s c)).reading ≡ Packet (fields_of s c d))
+      × ((read_packet (packet_of s c)).reading ≡ Ok (fields_of s c d))
       × ((read_packet (packet_of s c)).part ≡ word_bytes (next_words s c.image d.dump))
   -- what is accepted is what some slot writes
   pub read_slot : (p : List ℕ) → AreBytes p → packet_number (read_packet p).reading ≡ 0

@@ -1,14 +1,11 @@
 -- Paper 01, "Result numbers": the number of each refusal, which refusals are counted, and the lowest number that applies.
-use Rattle.std.specs.Prelude.{Bool, true, false, cond, not, List, [], ◌∷◌, ℕ, ltb, eqb, length}
+use Rattle.std.specs.Prelude.{Bool, true, false, cond, not, List, [], ◌∷◌, ℕ, ltb, eqb, length, Result, Ok, Err}
 use Rattle.rules.specs.Regions.{image_length}
 use Rattle.rules.specs.States.{good_state}
 use Rattle.rules.specs.declared.State.{State}
 use Rattle.rules.specs.declared.Refusal.{Refusal}
 use Rattle.rules.specs.declared.Refusal.TheVariants.{BadState, ImageLength, BufferLength, Malformed, OtherApid, UnknownCode, PacketLength, OtherUnit, BadField, OutsideRegions, NoRight, TransactionBusy, PlacesBusy, NotBusy, PoolDamaged, NothingToSend, BadTable, UnknownSymbol, RunsOut}
-use Rattle.rules.specs.declared.Verdict.{Verdict}
-use Rattle.rules.specs.declared.Verdict.TheVariants.{Accepted, Rejected}
-use Rattle.rules.specs.declared.Answer.{Answer}
-use Rattle.rules.specs.declared.Answer.TheVariants.{Refused, Done}
+use Rattle.rules.specs.declared.Written.{Written}
 
 -- the paper's number of each refusal
 abbrev pub number : Refusal → ℕ
@@ -54,18 +51,21 @@ counted BadTable = true
 counted UnknownSymbol = true
 counted RunsOut = true
 
--- the number and the length of an answer; a refusal reports length 0
-abbrev pub verdict_number : Verdict → ℕ
-verdict_number Accepted = 0
-verdict_number (Rejected r) = number r
+-- the number of an answer: 0, or that of its refusal
+abbrev pub number_of : {A : Type 0} → Result A Refusal → ℕ
+number_of (Ok x) = 0
+number_of (Err r) = number r
 
-abbrev pub answer_number : Answer → ℕ
-answer_number (Refused r) = number r
-answer_number (Done w) = 0
+abbrev pub verdict_number : Result (Unit {0}) Refusal → ℕ
+verdict_number v = number_of v
 
-abbrev pub answer_length : Answer → ℕ
-answer_length (Refused r) = 0
-answer_length (Done w) = w.length
+abbrev pub answer_number : Result Written Refusal → ℕ
+answer_number a = number_of a
+
+-- the length of an answer; a refusal reports length 0
+abbrev pub answer_length : Result Written Refusal → ℕ
+answer_length (Err r) = 0
+answer_length (Ok w) = w.length
 
 -- a row of the table for one call: a refusal, and whether its case applies
 pub record Row : Type 0 where
@@ -77,9 +77,9 @@ row r b = record { refusal = r; applies = b }
 
 -- The first row that applies. The rows of a call stand in the order laid down for its tests: they ascend by number, so that this is the lowest
 -- number that applies, but for 19, right after 10, and those of the command call that only codes 8 and 9 can get.
-unfoldable pub lowest : List Row → Verdict
-lowest [] = Accepted
-lowest (r ∷ rs) = cond r.applies (Rejected r.refusal) (lowest rs)
+unfoldable pub lowest : List Row → Result (Unit {0}) Refusal
+lowest [] = (Ok tt)
+lowest (r ∷ rs) = cond r.applies (Err r.refusal) (lowest rs)
 
 -- rows 1, 2 and 3, for a call whose buffer must have `size` bytes
 unfoldable pub lent_rows : State → List ℕ → ℕ → List ℕ → List Row

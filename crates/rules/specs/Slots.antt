@@ -1,5 +1,5 @@
 -- Paper 01, "Telemetry slots": the slot call, from all that is lent to all that is left.
-use Rattle.std.specs.Prelude.{Bool, true, false, not, cond, List, [], ◌∷◌, ◌++◌, ℕ, ◌+◌, ◌*◌, ◌%◌, ltb, length, take, drop}
+use Rattle.std.specs.Prelude.{Bool, true, false, not, cond, List, [], ◌∷◌, ◌++◌, ℕ, ◌+◌, ◌*◌, ◌%◌, ltb, length, take, drop, Result, Ok, Err}
 use Rattle.lists.specs.Below.{any_below, first_below}
 use Rattle.lists.specs.Splice.{splice}
 use Rattle.wire.specs.Bytes.{be, word_bytes}
@@ -15,9 +15,6 @@ use Rattle.rules.specs.declared.Context.TheVariants.{Idle, Busy}
 use Rattle.rules.specs.declared.State.{State}
 use Rattle.rules.specs.declared.Refusal.{Refusal}
 use Rattle.rules.specs.declared.Refusal.TheVariants.{NothingToSend}
-use Rattle.rules.specs.declared.Verdict.{Verdict}
-use Rattle.rules.specs.declared.Verdict.TheVariants.{Accepted, Rejected}
-use Rattle.rules.specs.declared.Answer.TheVariants.{Refused, Done}
 
 -- what a slot call is lent beside the state
 pub record SlotArgs : Type 0 where
@@ -102,22 +99,22 @@ served s places last packets =
 
 -- a refusal: all stays as handed in
 abbrev pub refused_slot : State → SlotArgs → Refusal → Outcome
-refused_slot s c r = record { answer = Refused r; state = s; image = c.image; buffer = c.buffer }
+refused_slot s c r = record { answer = Err r; state = s; image = c.image; buffer = c.buffer }
 
 -- place p is served
 abbrev pub serve : State → SlotArgs → ℕ → Context → Outcome
 serve s c p Idle = refused_slot s c NothingToSend
 serve s c p (Busy d) =
     record {
-      answer = Done (record { length = length (packet_bytes s c.tick d (next_words s c.image d)) });
+      answer = Ok (record { length = length (packet_bytes s c.tick d (next_words s c.image d)) });
       state = served s (set_context s.places p (after_packet d)) p ((s.packets + 1) % 16384);
       image = c.image;
       buffer = splice c.buffer 0 (packet_bytes s c.tick d (next_words s c.image d));
     }
 
-abbrev pub conclude_slot : State → SlotArgs → Verdict → Outcome
-conclude_slot s c (Rejected r) = refused_slot s c r
-conclude_slot s c Accepted = serve s c (next_place s.places s.last) (context_at s.places (next_place s.places s.last))
+abbrev pub conclude_slot : State → SlotArgs → Result (Unit {0}) Refusal → Outcome
+conclude_slot s c (Err r) = refused_slot s c r
+conclude_slot s c (Ok tt) = serve s c (next_place s.places s.last) (context_at s.places (next_place s.places s.last))
 
 -- THE SLOT CALL
 unfoldable pub slot_call : State → SlotArgs → Outcome

@@ -1,5 +1,5 @@
 -- Paper 01, "Regions and image": pools, start-up and the good state.
-use Rattle.std.specs.Prelude.{Bool, true, false, ◌&&◌, not, cond, List, ◌++◌, ℕ, ◌-◌, ◌%◌, leb, ltb, eqb, length, get_or, take, replicate}
+use Rattle.std.specs.Prelude.{Bool, true, false, ◌&&◌, not, cond, List, ◌++◌, ℕ, ◌-◌, ◌%◌, leb, ltb, eqb, length, get_or, take, replicate, Ok, Err}
 use Rattle.lists.specs.Below.{all_below}
 use Rattle.rules.specs.Regions.{start_of, aligned, no_range, no_region, table_rules, in_one_region, dump_right}
 use Rattle.rules.specs.declared.Range.{Range}
@@ -11,7 +11,6 @@ use Rattle.rules.specs.declared.Context.TheVariants.{Idle, Busy}
 use Rattle.rules.specs.declared.State.{State}
 use Rattle.rules.specs.declared.Refusal.TheVariants.{BadTable}
 use Rattle.rules.specs.declared.Started.{Started}
-use Rattle.rules.specs.declared.Verdict.TheVariants.{Accepted, Rejected}
 
 -- POOLS
 
@@ -49,8 +48,8 @@ no_state = fresh_state (replicate 16 no_region) 0 (replicate 2 no_range) 0
 unfoldable pub start_up : List Region → ℕ → List Range → ℕ → Started
 start_up rs n ps unit =
     cond (start_rules rs n ps unit)
-    (record { verdict = Accepted; state = fresh_state (entries_used rs n) n ps unit })
-    (record { verdict = Rejected BadTable; state = no_state })
+    (record { verdict = (Ok tt); state = fresh_state (entries_used rs n) n ps unit })
+    (record { verdict = Err BadTable; state = no_state })
 
 -- THE GOOD STATE
 

@@ -1,6 +1,6 @@
 -- Paper 02, A2: symbols, their values and dumps by name, computed with the definitions. The box is that of E1: unit 2, one region at 1000 hex of
 -- four words, both rights.
-use Rattle.std.specs.Prelude.{◌≡◌, true, false, List, [], ◌∷◌, ◌++◌, map, ℕ, length, set, take, replicate}
+use Rattle.std.specs.Prelude.{◌≡◌, true, false, List, [], ◌∷◌, ◌++◌, map, ℕ, length, set, take, replicate, Ok}
 use Rattle.wire.specs.Bytes.{be, words_at}
 use Rattle.rules.specs.Packets.{sealed, command_bytes}
 use Rattle.symbols.specs.Table.{symbol_table, value_of}
@@ -8,7 +8,6 @@ use Rattle.rules.specs.Ground.{read_command, reading_number}
 use Rattle.rules.specs.Demand3.{Call, command, Event, events}
 use Rattle.rules.specs.Examples.{header, numbers, written, usual, four, slot_at}
 use Rattle.rules.specs.declared.Command.TheVariants.{SymbolValue, DumpSymbol}
-use Rattle.rules.specs.declared.Reading.TheVariants.{Read}
 use Rattle.rules.specs.declared.State.{State}
 
 -- A TABLE
@@ -128,7 +127,7 @@ pub record SymbolExamples : Type 0 where
       ≡ 9 ∷ 9 ∷ 9 ∷ 0 ∷ []
   -- both commands, written and read
   pub read : (read_command (by_name 0x124 long 0xFFFFFFF8 2)).reading
-      ≡ Read (record { header = header 0 0x124; command = DumpSymbol (record { name = 48; offset = 0xFFFFFFF8; size = 2 }) })
+      ≡ Ok (record { header = header 0 0x124; command = DumpSymbol (record { name = 48; offset = 0xFFFFFFF8; size = 2 }) })
   pub read_words : (read_command (value 0x123 h2)).words ≡ 0x48320000 ∷ replicate 11 0
   -- the name's bytes beyond its size are written 0
   pub beyond : command_bytes (header 0 0x123) (SymbolValue 2) (0x48324142 ∷ replicate 11 0x43434343) ≡ value 0x123 h2

@@ -1,6 +1,8 @@
 // The types of the memory service, and paper 01's examples and demands as theorems over the definitions in specs/.
 #![tactic(auto)]
 
+ghost use Rattle.std.specs.Prelude.{◌≡◌};
+ghost use Rattle.rules.specs.Results.{number, counted};
 ghost use Rattle.rules.specs.Examples.{Examples};
 ghost use Rattle.rules.specs.FurtherExamples.{FurtherExamples};
 ghost use Rattle.rules.specs.NumberExamples.{NumberExamples};
@@ -18,6 +20,9 @@ ghost use Rattle.rules.specs.Silence.{Silence};
 ghost use Rattle.rules.specs.LoadBack.{LoadBack};
 ghost use Rattle.rules.specs.Replies.{Replies};
 ghost use Rattle.rules.specs.PoolsApart.{PoolsApart};
+
+use std::error::Error;
+use std::fmt;
 
 // A byte address.
 #[derive(Clone, Copy)]
@@ -50,7 +55,7 @@ pub struct ActiveDump {
     pub sent: u32,
 }
 
-// What a dump place does. Idle is first: it is what an unset element of an array holds.
+// What a dump place does. Idle is first: it is what an unset element of an array holds. Kept: an Option would lose the two names that the scope gives.
 #[derive(Clone, Copy)]
 pub enum Context {
     Idle,
@@ -64,6 +69,7 @@ pub struct Place {
 }
 
 // The state of the service, handed in and returned by value. Of the sixteen regions the first `count` are in use.
+// Kept: an array and a count, in fixed memory.
 // `last` is the place served last; `replies`, `values` and `packets` are the packet counts of APID 785, 786 and 788.
 #[derive(Clone, Copy)]
 pub struct State {
@@ -116,13 +122,6 @@ pub enum Command {
     DumpSymbol(SymbolRequest),
 }
 
-// What a function code names.
-#[derive(Clone, Copy)]
-pub enum Decoded {
-    Unknown,
-    Known(Command),
-}
-
 // What a command asks the service to do, once its symbol is resolved: a dump by name is the dump of a range, and the value of a symbol is a
 // number to tell.
 #[derive(Clone, Copy)]
@@ -136,7 +135,7 @@ pub enum Task {
 }
 
 // Why a call is refused: one variant for each number from 1 to 19, in that order.
-#[derive(Clone, Copy)]
+#[derive(Clone, Copy, Debug, PartialEq, Eq)]
 pub enum Refusal {
     BadState,
     ImageLength,
@@ -159,17 +158,85 @@ pub enum Refusal {
     RunsOut,
 }
 
-// The outcome of a call's tests.
-#[derive(Clone, Copy)]
-pub enum Verdict {
-    Accepted,
-    Rejected(Refusal),
+// The paper's number of a refusal.
+impl From<Refusal> for u32 {
+    ghost from_gives = { λ r n. n ≡ number r };
+
+    fn from(r: Refusal) -> u32 {
+        match r {
+            Refusal::BadState => 1,
+            Refusal::ImageLength => 2,
+            Refusal::BufferLength => 3,
+            Refusal::Malformed => 4,
+            Refusal::OtherApid => 5,
+            Refusal::UnknownCode => 6,
+            Refusal::PacketLength => 7,
+            Refusal::OtherUnit => 8,
+            Refusal::BadField => 9,
+            Refusal::OutsideRegions => 10,
+            Refusal::NoRight => 11,
+            Refusal::TransactionBusy => 12,
+            Refusal::PlacesBusy => 13,
+            Refusal::NotBusy => 14,
+            Refusal::PoolDamaged => 15,
+            Refusal::NothingToSend => 16,
+            Refusal::BadTable => 17,
+            Refusal::UnknownSymbol => 18,
+            Refusal::RunsOut => 19,
+        }
+    }
 }
 
-// What start-up gives.
+// What a refusal means, in a few words.
+impl fmt::Display for Refusal {
+    fn fmt<W: fmt::Write>(&self, f: &mut fmt::Formatter<W>) -> fmt::Result {
+        f.write_str(match self {
+            Refusal::BadState => "state not good",
+            Refusal::ImageLength => "image length differs from the table's sum",
+            Refusal::BufferLength => "lent output buffer too short",
+            Refusal::Malformed => "malformed packet",
+            Refusal::OtherApid => "another APID",
+            Refusal::UnknownCode => "unknown function code",
+            Refusal::PacketLength => "packet length wrong for its code",
+            Refusal::OtherUnit => "another unit",
+            Refusal::BadField => "field out of its bounds",
+            Refusal::OutsideRegions => "first word in no region, or no such pool",
+            Refusal::NoRight => "region lacks the right",
+            Refusal::TransactionBusy => "transaction number already busy",
+            Refusal::PlacesBusy => "four places busy",
+            Refusal::NotBusy => "no busy dump has that number",
+            Refusal::PoolDamaged => "pool blocks damaged",
+            Refusal::NothingToSend => "no dump is busy",
+            Refusal::BadTable => "table, pools or unit break a rule, or no symbol table",
+            Refusal::UnknownSymbol => "no such symbol",
+            Refusal::RunsOut => "range starts inside a region and runs out of it",
+        })
+    }
+}
+
+impl Error for Refusal {}
+
+impl Refusal {
+    // Whether a command that is refused so adds one to the refused count.
+    pub fn is_counted(self) -> bool
+        ensures { result ≡ counted self }
+    {
+        !matches!(
+            self,
+            Refusal::BadState
+                | Refusal::ImageLength
+                | Refusal::BufferLength
+                | Refusal::OtherApid
+                | Refusal::OtherUnit
+                | Refusal::NothingToSend
+        )
+    }
+}
+
+// What start-up gives. Kept: on a refusal too there is a state beside it, which a Result would drop.
 #[derive(Clone, Copy)]
 pub struct Started {
-    pub verdict: Verdict,
+    pub verdict: Result<(), Refusal>,
     pub state: State,
 }
 
@@ -179,17 +246,10 @@ pub struct Written {
     pub length: usize,
 }
 
-// What a command call, a slot call and the command writer answer.
-#[derive(Clone, Copy)]
-pub enum Answer {
-    Refused(Refusal),
-    Done(Written),
-}
-
-// What a command call and a slot call return beside the image and the buffer that they leave.
+// What a command call and a slot call return beside the image and the buffer that they leave. Kept: a refusal too leaves a state.
 #[derive(Clone, Copy)]
 pub struct Returned {
-    pub answer: Answer,
+    pub answer: Result<Written, Refusal>,
     pub state: State,
 }
 
@@ -200,17 +260,11 @@ pub struct Telecommand {
     pub command: Command,
 }
 
-// What the command reader answers.
-#[derive(Clone, Copy)]
-pub enum Reading {
-    Unread(Refusal),
-    Read(Telecommand),
-}
-
 // What the command reader gives: its answer, and twelve words beside it: a load's eleven and 0, a symbol's name, or zeros.
+// Kept: on a refusal too the words are there, as C gets them.
 #[derive(Clone, Copy)]
 pub struct CommandRead {
-    pub reading: Reading,
+    pub reading: Result<Telecommand, Refusal>,
     pub words: [u32; 12],
 }
 
@@ -222,13 +276,6 @@ pub struct DumpPacket {
     pub range: Range,
     pub here: Address,
     pub words: u32,
-}
-
-// What the dump packet reader answers.
-#[derive(Clone, Copy)]
-pub enum PacketReading {
-    NoPacket(Refusal),
-    Packet(DumpPacket),
 }
 
 // The theorems. These functions do nothing: the contract of each is what is proved.

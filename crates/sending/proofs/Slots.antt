@@ -1,5 +1,6 @@
 -- The slot call is the decision, carried out.
 -- Assumes nothing.
+use Rattle.std.specs.Prelude.{Result, Ok, Err}
 use mathlib.Core.Path.{◌≡◌, refl, sym, ap, ◌∙◌}
 use mathlib.Core.Bool.{true, not, cond}
 use mathlib.Core.List.{List, [], ◌∷◌}
@@ -19,7 +20,6 @@ use Rattle.rules.proofs.Good.{DumpIs, dump_out}
 use Rattle.rules.proofs.Round.{any_busy_in, next_in_four}
 use Rattle.rules.proofs.Table.{one_out, one_any, holds_any, image_fits, table_count, table_region, range_low}
 use Rattle.rules.specs.declared.ActiveDump.{ActiveDump}
-use Rattle.rules.specs.declared.Answer.{Answer}
 use Rattle.rules.specs.declared.Context.{Context}
 use Rattle.rules.specs.declared.Context.TheVariants.{Idle, Busy}
 use Rattle.rules.specs.declared.DumpPacket.{DumpPacket}
@@ -27,21 +27,20 @@ use Rattle.rules.specs.declared.Refusal.{Refusal}
 use Rattle.rules.specs.declared.Refusal.TheVariants.{NothingToSend}
 use Rattle.rules.specs.declared.Region.{Region}
 use Rattle.rules.specs.declared.State.{State}
-use Rattle.rules.specs.declared.Verdict.{Verdict}
-use Rattle.rules.specs.declared.Verdict.TheVariants.{Accepted, Rejected}
 use Rattle.bulk.specs.DumpBytes.{dump_packet_bytes, packet_fits}
 use Rattle.bulk.proofs.Packet.{slot_packet}
 use Rattle.places.specs.Turns.{turn_of, next_turn}
 use Rattle.regions.proofs.Answers.{found_whole, index_whole}
-use Rattle.regions.specs.declared.Found.{Found}
-use Rattle.regions.specs.declared.Found.TheVariants.{At, StartsOutside, EndsOutside}
 use Rattle.opening.specs.Opening.{lent_by, good_words, find, index}
 use Rattle.sending.specs.Sendings.{decide_send, by_turn, sending_as, sending, send_answer, buffer_after, state_sent, sent_out, PlaceFits, SlotDecided}
-use Rattle.sending.specs.declared.Sending.{Sending}
-use Rattle.sending.specs.declared.Sending.TheVariants.{Keep}
 use Rattle.sending.proofs.Parts.{part_of_part}
 use Rattle.opening.proofs.Rows.{or_else, lowest_join}
 use Rattle.opening.proofs.Lent.{LentIs, lent_lowest, lent_out, lent_good}
+use Rattle.rules.specs.declared.Written.{Written}
+use Rattle.regions.specs.declared.Spot.{Spot}
+use Rattle.regions.specs.declared.Miss.{Miss}
+use Rattle.sending.specs.declared.Piece.{Piece}
+use Rattle.regions.specs.declared.Miss.TheVariants.{StartsOutside, EndsOutside}
 
 -- THE IMAGE OF A TABLE BY THE RULES
 
@@ -149,11 +148,11 @@ module _ (s : State) (c : SlotArgs) (lent : LentIs s c.image longest_packet c.bu
 
 -- 1 TO 3, AND THE CALL
 
-by_lent : (s : State) (c : SlotArgs) (v : Verdict) → lowest (lent_rows s c.image longest_packet c.buffer) ≡ v
+by_lent : (s : State) (c : SlotArgs) (v : Result (Unit {0}) Refusal) → lowest (lent_rows s c.image longest_packet c.buffer) ≡ v
     → conclude_slot s c (or_else v (lowest (row NothingToSend (not (any_busy s.places)) ∷ []))) ≡ sent_out s c (sending_as s c.tick v)
 unfolding next_turn
-by_lent s c (Rejected r) e = refl
-by_lent s c Accepted e =
+by_lent s c (Err r) e = refl
+by_lent s c (Ok tt) e =
     by_turn_lem s c (lent_out s c.image longest_packet c.buffer e) (context_at s.places (next_place s.places s.last)) refl
 
 pub slot_decided : SlotDecided
@@ -169,16 +168,16 @@ slot_decided s c =
 
 -- its steps give the decision
 module _ (s : State) (c : SlotArgs) {words image buffer : ℕ} (ew : words ≡ cond (good_state s) (image_length s.regions s.count) 0)
-    (ei : length c.image ≡ image) (eb : length c.buffer ≡ buffer) {v : Verdict} (ev : v ≡ lent_by words image longest_packet buffer) where
+    (ei : length c.image ≡ image) (eb : length c.buffer ≡ buffer) {v : (Result (Unit {0}) Refusal)} (ev : v ≡ lent_by words image longest_packet buffer) where
   lent_as : lent_by (good_words s) (length c.image) longest_packet (length c.buffer) ≡ v
   unfolding good_words
   lent_as = rw (ei, eb, ← ew) (sym ev)
 
-  pub step_refused : {r : Refusal} → v ≡ Rejected r → Keep r ≡ sending s c
+  pub step_refused : {r : Refusal} → v ≡ Err r → Err r ≡ sending s c
   unfolding sending
   step_refused h = rw (lent_as, h)
 
-  pub step_turn : {d : Sending} → v ≡ Accepted → (good_state s ≡ true → d ≡ by_turn s c.tick (next_turn s.places s.last)) → d ≡ sending s c
+  pub step_turn : {d : (Result Piece Refusal)} → v ≡ (Ok tt) → (good_state s ≡ true → d ≡ by_turn s c.tick (next_turn s.places s.last)) → d ≡ sending s c
   unfolding sending
   step_turn h k = rw (lent_as, h) (k (lent_good s (length c.image) longest_packet (length c.buffer) (lent_as ∙ h)))
 
@@ -187,23 +186,23 @@ by_turn_fits : (s : State) (tick p : ℕ) → p < 4 → (a : Context) → PlaceF
 by_turn_fits s tick p l Idle = tt
 by_turn_fits s tick p l (Busy d) = found (find s d.range)
   where
-    found : (f : Found) → PlaceFits (decide_send (record { place = p; dump = d }) f (index s d.range) s.packets s.unit tick)
-    found StartsOutside = tt
-    found EndsOutside = tt
-    found (At spot) = l
+    found : (f : Result Spot Miss) → PlaceFits (decide_send (record { place = p; dump = d }) f (index s d.range) s.packets s.unit tick)
+    found (Err StartsOutside) = tt
+    found (Err EndsOutside) = tt
+    found (Ok spot) = l
 
-sending_fits : (s : State) (tick : ℕ) (v : Verdict) → PlaceFits (sending_as s tick v)
+sending_fits : (s : State) (tick : ℕ) (v : Result (Unit {0}) Refusal) → PlaceFits (sending_as s tick v)
 unfolding next_turn
-sending_fits s tick (Rejected r) = tt
-sending_fits s tick Accepted =
+sending_fits s tick (Err r) = tt
+sending_fits s tick (Ok tt) =
     by_turn_fits s tick (next_place s.places s.last) (next_in_four s.places s.last) (context_at s.places (next_place s.places s.last))
 
 -- and their effect is the call's
-module _ (s : State) (c : SlotArgs) {d : Sending} (e : d ≡ sending s c) where
+module _ (s : State) (c : SlotArgs) {d : (Result Piece Refusal)} (e : d ≡ sending s c) where
   place_fits : PlaceFits d
   unfolding sending
   place_fits = rw e (sending_fits s c.tick (lent_by (good_words s) (length c.image) longest_packet (length c.buffer)))
 
-  pub slot_done : {answer : Answer} {state : State} {buffer : List ℕ} → (answer ≡ send_answer d) × (buffer ≡ buffer_after d c.image c.buffer)
+  pub slot_done : {answer : (Result Written Refusal)} {state : State} {buffer : List ℕ} → (answer ≡ send_answer d) × (buffer ≡ buffer_after d c.image c.buffer)
       → (PlaceFits d → state ≡ state_sent s d) → (record { answer = answer; state = state } ≡ returned (slot_call s c)) × (buffer ≡ (slot_call s c).buffer)
   slot_done (ea, eb) es = rw (slot_decided s c, ← e, ea, es place_fits, eb) (refl, refl)

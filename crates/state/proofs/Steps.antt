@@ -1,5 +1,6 @@
 -- The steps of start-up and of the good state's test give what the definitions give.
 -- Assumes nothing.
+use Rattle.std.specs.Prelude.{Ok, Err}
 use mathlib.Core.Path.{◌≡◌, refl, sym, ◌∙◌}
 use mathlib.Core.Bool.{Bool, true, false, ◌&&◌, not, cond}
 use mathlib.Core.List.{List}
@@ -21,7 +22,6 @@ use Rattle.rules.specs.declared.Range.{Range}
 use Rattle.rules.specs.declared.Refusal.TheVariants.{BadTable}
 use Rattle.rules.specs.declared.Region.{Region}
 use Rattle.rules.specs.declared.State.{State}
-use Rattle.rules.specs.declared.Verdict.TheVariants.{Accepted, Rejected}
 use Rattle.places.specs.Turns.{dump_fields, first_within}
 use Rattle.places.proofs.Answers.{apart_before}
 
@@ -131,11 +131,11 @@ module _ (rs : List Region) where
       )
 
 module _ (rs : List Region) (n : ℕ) (ps : List Range) (unit : ℕ) where
-  pub start_refused : start_rules rs n ps unit ≡ false → (s : State) → s ≡ no_state → record { verdict = Rejected BadTable; state = s } ≡ start_up rs n ps unit
+  pub start_refused : start_rules rs n ps unit ≡ false → (s : State) → s ≡ no_state → record { verdict = Err BadTable; state = s } ≡ start_up rs n ps unit
   unfolding start_up
   start_refused h s es = rw (h, es)
 
   pub start_accepted : start_rules rs n ps unit ≡ true → (used : List Region) → used ≡ entries_used rs n → (s : State) → s ≡ fresh_state used n ps unit
-      → record { verdict = Accepted; state = s } ≡ start_up rs n ps unit
+      → record { verdict = (Ok tt); state = s } ≡ start_up rs n ps unit
   unfolding start_up
   start_accepted h used eu s es = rw (h, es, eu)

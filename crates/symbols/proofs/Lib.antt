@@ -6,3 +6,4 @@ pub mod Steps
 pub mod Words
 pub mod Grown
 pub mod Told
+pub mod Listed

@@ -16,7 +16,6 @@ use Rattle.wire.specs.Bytes.{AreBytes}
 use Rattle.wire.specs.ByByte.{four}
 use Rattle.wire.proofs.Numbers.{be_at_below}
 use Rattle.wire.proofs.ByByte.{at_four}
-use Rattle.symbols.specs.Answers.{KnownOf, known_of}
 use Rattle.symbols.specs.Table.{same_name, symbols_in, kind_at, name_at, number_at, symbol_rules, symbol_table, resolved_by, value_at, has_name, record_of, value_of, IsSymbol, IsTable, Resolves, Named}
 use Rattle.symbols.specs.Table.Resolves.{value, alias}
 use Rattle.symbols.specs.Record.{record_rules}
@@ -178,8 +177,3 @@ resolved_fits t b (suc d) i =
 pub value_fits : (t name : List ℕ) → AreBytes t → value_of t name < 4294967296
 unfolding value_of
 value_fits t name b = resolved_fits t b (suc (record_of t name)) (record_of t name)
-
--- what a test of a table finds is so
-pub known_right : (t : List ℕ) → KnownOf (known_of t) t
-unfolding known_of
-known_right t = either (symbol_table t) (λ e. rw e e) (λ e. rw e e)

@@ -1,6 +1,6 @@
 -- Names: two are the same exactly if they have the same length and bytes.
 -- Assumes nothing.
-use mathlib.Core.Path.{◌≡◌, ap}
+use mathlib.Core.Path.{◌≡◌, sym, ap, ◌∙◌}
 use mathlib.Core.Logic.{◌↔◌}
 use mathlib.Core.Bool.{Bool, true, false}
 use mathlib.Core.List.{List}
@@ -9,8 +9,9 @@ use lib.Dec.{eqb}
 use lib.ListN.{length, get_or}
 use lib.Seq.{ext_get_or}
 use borrow.Author.Tests.{eqb-true, eq-eqb}
+use Rattle.std.specs.Cmp.Lexicographic.{pointwise, bytes_decides}
 use Rattle.lists.specs.Below.{all_below}
-use Rattle.lists.proofs.Tests.{either, and_left, and_right, and_both}
+use Rattle.lists.proofs.Tests.{either, contra, and_left, and_right, and_both}
 use Rattle.lists.proofs.Below.{all_at, all_of}
 use Rattle.symbols.specs.Table.{same_name}
 
@@ -33,3 +34,10 @@ module _ (a b : List ℕ) where
 
   pub apart_name : (a ≡ b → ⊥) → same_name a b ≡ false
   apart_name f = either (same_name a b) (λ h. absurd (f (same_out h))) (λ h. h)
+
+  -- as the library compares them
+  pub same_told : pointwise eqb a b ≡ same_name a b
+  same_told =
+      either (same_name a b)
+      (λ h. (bytes_decides a b).1 (same_out h) ∙ sym h)
+      (λ h. either (pointwise eqb a b) (λ e. absurd (contra (same_in ((bytes_decides a b).0 e)) h)) (λ e. e ∙ sym h))

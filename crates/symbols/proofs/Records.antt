@@ -9,15 +9,13 @@ use lib.Dec.{leb, ltb, eqb}
 use lib.ListN.{length, get_or, length-drop}
 use lib.Seq.{length-take-le, ext_get_or}
 use borrow.Author.Tests.{ltb-true, leb-true, eqb-true, lt-ltb, le-ltb, le-leb, eq-eqb, eqb-false}
-use Rattle.lists.specs.Below.{all_below}
 use Rattle.lists.proofs.Tests.{either, and_left, and_right, and_both, by_lt}
-use Rattle.lists.proofs.Below.{all_at, all_of, all_same}
+use Rattle.lists.proofs.Below.{all_at, all_of}
 use Rattle.wire.specs.Bytes.{be_at}
 use Rattle.wire.specs.ByByte.{four}
 use Rattle.wire.proofs.ByByte.{at_two, at_four}
-use Rattle.symbols.specs.Table.{same_name, kind_at, name_length_at, name_at, number_at, padded, IsSymbol}
-use Rattle.symbols.specs.Record.{record_rules}
-use Rattle.symbols.proofs.Names.{apart_name}
+use Rattle.symbols.specs.Table.{kind_at, name_length_at, name_at, number_at, padded, IsSymbol}
+use Rattle.symbols.specs.Record.{record_rules, HoldsName}
 use Rattle.symbols.proofs.Numbers.{part_byte}
 
 -- THE RULES
@@ -106,56 +104,31 @@ module _ (t : List ℕ) (i : ℕ) where
           (λ e. rw e)
           (λ e. let k = s.kind in let one : kind_at t i ≡ 1 = one_of k (eqb-false (kind_at t i) 0 e) in let l = s.lower one in rw e (lt-ltb (number_at t i) i (omega arith)))
 
--- NAMES
+-- NAMES, each in the bytes of its own record
 
-module _ (t : List ℕ) (i : ℕ) (fits : 56 * i + 56 ≤ length t) (s : IsSymbol t i) where
-  pub name_length : length (name_at t i) ≡ name_length_at t i
-  name_length = let m = s.most in length-take-le (name_length_at t i) _ (simp length-drop (omega arith))
+module _ (r : List ℕ) (bytes : length r ≡ 56) (h : HoldsName r) where
+  pub name_length : length (name_at r 0) ≡ name_length_at r 0
+  name_length = let m = h.most in length-take-le (name_length_at r 0) _ (simp length-drop (omega arith))
 
-  pub name_byte : (j : ℕ) → j < name_length_at t i → get_or (name_at t i) j 0 ≡ get_or t (56 * i + 4 + j) 0
-  name_byte j l = part_byte t (56 * i + 4) (name_length_at t i) j l
+  pub name_byte : (k : ℕ) → k < name_length_at r 0 → get_or (name_at r 0) k 0 ≡ get_or r (4 + k) 0
+  name_byte k l = part_byte r 4 (name_length_at r 0) k l
 
--- a given name, compared with that of record i
-abbrev pub has_byte : List ℕ → ℕ → List ℕ → ℕ → Bool
-has_byte t i name j = eqb (get_or t (56 * i + 4 + j) 0) (get_or name j 0)
+-- the names of two, by their whole fields: padding is zero
+module _ (r s : List ℕ) (br : length r ≡ 56) (bs : length s ≡ 56) (hr : HoldsName r) (hs : HoldsName s) where
+  pub lengths_same : name_at r 0 ≡ name_at s 0 → name_length_at r 0 ≡ name_length_at s 0
+  lengths_same e = sym (name_length r br hr) ∙ ap length e ∙ name_length s bs hs
 
-module _ (t : List ℕ) (i : ℕ) (p : (56 * i + 56 ≤ length t) × (record_rules t i ≡ true)) (name : List ℕ) where
-  pub named_not : (name_length_at t i ≡ length name → ⊥) → false ≡ same_name (name_at t i) name
-  named_not f = sym (apart_name (name_at t i) name (λ e. f (sym (name_length t i p.0 (record_out t i p.1)) ∙ ap length e)))
-
-  pub named_by : name_length_at t i ≡ length name → all_below (has_byte t i name) (length name) ≡ same_name (name_at t i) name
-  named_by e =
-      let s = record_out t i p.1 in
-      let n = name_length t i p.0 s in
-      let l : length name ≡ length (name_at t i) = omega arith in
-      rw (eq-eqb (length (name_at t i)) (length name) (sym l), l)
-      (all_same (has_byte t i name) _ (length (name_at t i)) (λ j k. rw (name_byte t i p.0 s j (omega arith))))
-
-  -- one byte that differs
-  pub named_apart : name_length_at t i ≡ length name → (j : ℕ) → j < length name → (get_or t (56 * i + 4 + j) 0 ≡ get_or name j 0 → ⊥)
-      → false ≡ same_name (name_at t i) name
-  named_apart e j l f =
-      sym
-      (either (same_name (name_at t i) name)
-      (λ s. absurd (f (eqb-true _ _ (all_at (has_byte t i name) (length name) (named_by e ∙ s) l))))
-      (λ s. s))
-
--- the name of two records, by their whole fields: padding is zero
-module _ (t : List ℕ) (i j : ℕ) (fi : 56 * i + 56 ≤ length t) (fj : 56 * j + 56 ≤ length t) (si : IsSymbol t i) (sj : IsSymbol t j) where
-  pub lengths_same : name_at t i ≡ name_at t j → name_length_at t i ≡ name_length_at t j
-  lengths_same e = sym (name_length t i fi si) ∙ ap length e ∙ name_length t j fj sj
-
-  pub fields_same : name_at t i ≡ name_at t j → (k : ℕ) → k < 48 → get_or t (56 * i + 4 + k) 0 ≡ get_or t (56 * j + 4 + k) 0
+  pub fields_same : name_at r 0 ≡ name_at s 0 → (k : ℕ) → k < 48 → get_or r (4 + k) 0 ≡ get_or s (4 + k) 0
   fields_same e k l =
       let n = lengths_same e in
-      by_lt k (name_length_at t i)
-      (λ h. sym (name_byte t i fi si k h) ∙ ap (λ (s : List ℕ). get_or s k 0) e ∙ name_byte t j fj sj k (omega arith))
-      (λ h. si.padding k h l ∙ sym (sj.padding k (omega arith) l))
+      by_lt k (name_length_at r 0)
+      (λ h. sym (name_byte r br hr k h) ∙ ap (λ (u : List ℕ). get_or u k 0) e ∙ name_byte s bs hs k (omega arith))
+      (λ h. hr.padding k h l ∙ sym (hs.padding k (omega arith) l))
 
-  pub names_same : name_length_at t i ≡ name_length_at t j → ((k : ℕ) → k < 48 → get_or t (56 * i + 4 + k) 0 ≡ get_or t (56 * j + 4 + k) 0) → name_at t i ≡ name_at t j
+  pub names_same : name_length_at r 0 ≡ name_length_at s 0 → ((k : ℕ) → k < 48 → get_or r (4 + k) 0 ≡ get_or s (4 + k) 0) → name_at r 0 ≡ name_at s 0
   names_same e f =
-      let ni = name_length t i fi si in
-      let nj = name_length t j fj sj in
-      let m = si.most in
-      ext_get_or 0 (name_at t i) (name_at t j) (omega arith)
-      (λ k l. name_byte t i fi si k (omega arith) ∙ f k (omega arith) ∙ sym (name_byte t j fj sj k (omega arith)))
+      let nr = name_length r br hr in
+      let ns = name_length s bs hs in
+      let m = hr.most in
+      ext_get_or 0 (name_at r 0) (name_at s 0) (omega arith)
+      (λ k l. name_byte r br hr k (omega arith) ∙ f k (omega arith) ∙ sym (name_byte s bs hs k (omega arith)))

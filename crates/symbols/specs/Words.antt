@@ -1,30 +1,23 @@
--- The name field of a record, eight bytes at a time.
-use Rattle.std.specs.Prelude.{Bool, ◌&&◌, List, ℕ, ◌+◌, ◌*◌, eqb}
+-- The name field of a symbol, eight bytes at a time.
+use Rattle.std.specs.Prelude.{Bool, ◌&&◌, List, [], ◌∷◌, ℕ, ◌+◌, ◌*◌, eqb, get_or}
+use Rattle.lists.specs.Below.{all_below}
 use Rattle.wire.specs.Bytes.{be_at}
-use Rattle.symbols.specs.Table.{record_bytes, name_length_at}
+use Rattle.symbols.specs.Table.{name_length_at}
 use Rattle.symbols.specs.declared.NameWords.{NameWords}
 
--- the eight bytes from byte `at` of record i on
-unfoldable pub word_at : List ℕ → ℕ → ℕ → ℕ
-word_at t i at = be_at 8 t (record_bytes * i + at)
+-- word k of it
+unfoldable pub word : List ℕ → ℕ → ℕ
+word r k = be_at 8 r (4 + 8 * k)
 
-abbrev pub name_words : List ℕ → ℕ → NameWords
-name_words t i =
-    record {
-      n = name_length_at t i;
-      a = word_at t i 4;
-      b = word_at t i 12;
-      c = word_at t i 20;
-      d = word_at t i 28;
-      e = word_at t i 36;
-      f = word_at t i 44;
-    }
+abbrev pub name_words : List ℕ → NameWords
+name_words r = record { n = name_length_at r 0; words = word r 0 ∷ word r 1 ∷ word r 2 ∷ word r 3 ∷ word r 4 ∷ word r 5 ∷ [] }
 
--- record j has these
-abbrev pub has_first : List ℕ → ℕ → ℕ → Bool
-has_first t a j = eqb (word_at t j 4) a
+-- a symbol has these
+abbrev pub has_first : ℕ → List ℕ → Bool
+has_first a r = eqb (word r 0) a
 
-abbrev pub has_words : List ℕ → NameWords → ℕ → Bool
-has_words t w j =
-    has_first t w.a j && eqb (name_length_at t j) w.n && eqb (word_at t j 12) w.b && eqb (word_at t j 20) w.c
-    && eqb (word_at t j 28) w.d && eqb (word_at t j 36) w.e && eqb (word_at t j 44) w.f
+abbrev pub has_word : NameWords → List ℕ → ℕ → Bool
+has_word w r k = eqb (word r k) (get_or w.words k 0)
+
+abbrev pub has_words : NameWords → List ℕ → Bool
+has_words w r = all_below (has_word w r) 6 && eqb (name_length_at r 0) w.n

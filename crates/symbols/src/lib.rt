@@ -1,272 +1,246 @@
 // The symbol table lent to a command call: whether bytes are one, and what a name resolves to in it.
 #![tactic(auto)]
 
-ghost use Rattle.std.specs.Prelude.{◌≡◌, true, not, List, ℕ, ◌+◌, ◌*◌, ◌≤◌, ◌<◌, length, take, drop};
-ghost use Rattle.lists.specs.Below.{all_below, any_below};
-ghost use Rattle.wire.specs.Bytes.{be_at};
-ghost use Rattle.symbols.specs.Table.{same_name, symbols_in, name_at, padded, symbol_rules, symbol_table, value_at};
-ghost use Rattle.symbols.specs.Answers.{KnownOf, known_of, found_in, symbol_of, SymbolNumbers};
-ghost use Rattle.symbols.specs.Record.{record_rules};
+ghost use Rattle.std.specs.Prelude.{◌≡◌, Bool, Some, true, not, List, ℕ, ◌<◌, length};
+ghost use Rattle.std.specs.List.{All, concat, list_all, list_any};
+ghost use Rattle.wire.specs.Bytes.{AreBytes};
+ghost use Rattle.symbols.specs.Table.{same_name, name_at, number_at, padded, symbol_table, value_at};
+ghost use Rattle.symbols.specs.Answers.{found_in, symbol_of, SymbolNumbers};
+ghost use Rattle.symbols.specs.Record.{HoldsName, own_rules};
 ghost use Rattle.symbols.specs.RecordByRecord.{RecordByRecord};
-ghost use Rattle.symbols.specs.Words.{name_words, has_first, has_words};
+ghost use Rattle.symbols.specs.Words.{word, name_words, has_first, has_words};
 
-use wire::{get16, get32};
+use wire::{read16, read32, read64};
 
-// What is known of a table: nothing yet, that it is one, or that it is none.
+// Why a name has no value: the table is none, or has no such name.
 #[derive(Clone, Copy)]
-pub enum Known {
-    Untested,
-    Right,
-    Wrong,
-}
-
-// What a name resolves to.
-#[derive(Clone, Copy)]
-pub enum Symbol {
+pub enum Unresolved {
     NoTable,
     Unknown,
-    Value(u32),
 }
 
-// The bytes of record i.
-fn record_at(t: &[u8], i: usize) -> &[u8]
-    requires { 56 * i + 56 ≤ length t.now }
-    ensures { (result.now ≡ take 56 (drop (56 * i) t.now)) × (length result.now ≡ 56) }
+// A symbol, as the bytes of a record. They are a table of one record, so that what holds of a symbol is said of record 0.
+type Symbol = [u8; 56];
+
+// The name in a symbol.
+fn name_of(symbol: &Symbol) -> &[u8]
+    requires { HoldsName symbol.now }
+    ensures { result.now ≡ name_at symbol.now 0 }
 {
-    let from = 56 * i;
-    let end = from + 56;
-    &t[from..end]
+    &symbol[4..4 + usize::from(symbol[1])]
+}
+
+// The number in a symbol: the value, or of an alias the symbol that it names.
+fn number_of(symbol: &Symbol) -> u32
+    ensures { result ≡ number_at symbol.now 0 }
+{
+    read32(symbol, 52)
 }
 
 // THE RULES
 
-fn is_padded(t: &[u8], i: usize) -> bool
-    requires { 56 * i + 56 ≤ length t.now }
-    ensures { result ≡ padded t.now i }
+fn is_padded(symbol: &Symbol) -> bool
+    ensures { result ≡ padded symbol.now 0 }
 {
-    let n = t[56 * i + 1] as usize;
-    let at = 56 * i + 4;
+    let n = usize::from(symbol[1]);
     let mut padded = true;
-    let mut j: usize = 0;
-    while j < 48 {
-        padded = padded & ((j < n) | (t[at + j] == 0));
-        j += 1;
+    for (j, byte) in symbol[4..52].iter().enumerate() {
+        padded &= (j < n) | (*byte == 0);
     }
     padded
 }
 
-// What is asked of record i by itself.
-fn is_record(t: &[u8], i: usize) -> bool
-    requires { 56 * i + 56 ≤ length t.now }
-    ensures { result ≡ record_rules t.now i }
+// What is asked by itself of a symbol that is record i.
+fn is_symbol(symbol: &Symbol, i: usize) -> bool
+    ensures { result ≡ own_rules symbol.now i }
 {
-    let r = record_at(t, i);
-    let kind = r[0];
-    let n = r[1];
+    let kind = symbol[0];
+    let n = symbol[1];
     (kind <= 1)
         & (1 <= n)
         & (n <= 48)
-        & (get16(r, 2) == 0)
-        & is_padded(t, i)
-        & ((kind == 0) | ((get32(r, 52) as usize) < i))
+        & (read16(symbol, 2) == 0)
+        & is_padded(symbol)
+        & ((kind == 0) | ((number_of(symbol) as usize) < i))
 }
 
-// Eight bytes as one number.
-fn get64(p: &[u8], at: u16) -> u64
-    requires { at ≤ 48 }
-    ensures { result ≡ be_at 8 p.now at }
-{
-    get32(p, at) as u64 * 4294967296 + get32(p, at + 4) as u64
-}
-
-// The length byte of a record, and its name field as six numbers.
+// The length byte of a symbol, and its name field as six numbers.
 #[derive(Clone, Copy)]
 struct NameWords {
     n: u8,
-    a: u64,
-    b: u64,
-    c: u64,
-    d: u64,
-    e: u64,
-    f: u64,
+    words: [u64; 6],
 }
 
-fn words_of(t: &[u8], i: usize) -> NameWords
-    requires { 56 * i + 56 ≤ length t.now }
-    ensures { result ≡ name_words t.now i }
+// Word k of the name field: eight bytes as one number.
+#[tactic(auto, unfolding(crate::specs::Words::word))]
+fn word(symbol: &Symbol, k: usize) -> u64
+    requires { k < 6 }
+    ensures { result ≡ word symbol.now k }
 {
-    let r = record_at(t, i);
+    read64(symbol, 4 + 8 * k)
+}
+
+fn words_of(symbol: &Symbol) -> NameWords
+    ensures { result ≡ name_words symbol.now }
+{
     NameWords {
-        n: r[1],
-        a: get64(r, 4),
-        b: get64(r, 12),
-        c: get64(r, 20),
-        d: get64(r, 28),
-        e: get64(r, 36),
-        f: get64(r, 44),
+        n: symbol[1],
+        words: [
+            word(symbol, 0),
+            word(symbol, 1),
+            word(symbol, 2),
+            word(symbol, 3),
+            word(symbol, 4),
+            word(symbol, 5),
+        ],
     }
 }
 
-// Whether record j has these.
-fn has_words(t: &[u8], j: usize, w: NameWords) -> bool
-    requires { 56 * j + 56 ≤ length t.now }
-    ensures { result ≡ has_words t.now w j }
+// Whether a symbol has these. Kept: the six are compared with no branch between them, which a derived `==` would have.
+fn has_words(symbol: &Symbol, w: NameWords) -> bool
+    ensures { result ≡ has_words w symbol.now }
 {
-    let r = record_at(t, j);
-    if get64(r, 4) != w.a {
+    if word(symbol, 0) != w.words[0] {
         return false;
     }
-    (r[1] == w.n)
-        & (get64(r, 12) == w.b)
-        & (get64(r, 20) == w.c)
-        & (get64(r, 28) == w.d)
-        & (get64(r, 36) == w.e)
-        & (get64(r, 44) == w.f)
-}
-
-// Whether some record before record i has these first eight bytes of its name field.
-fn any_first(t: &[u8], i: usize, a: u64) -> bool
-    requires { 56 * i ≤ length t.now }
-    ensures { result ≡ any_below (has_first t.now a) i }
-{
-    let mut k: usize = 0;
-    while k < i {
-        if get64(record_at(t, k), 4) == a {
-            return true;
-        }
-        k += 1;
+    let mut same = true;
+    for (k, other) in w.words.iter().enumerate() {
+        same &= word(symbol, k) == *other;
     }
-    false
+    same & (symbol[1] == w.n)
 }
 
-// Whether no record before record i has its name. Names are padded with zeros, so the whole fields are compared, eight bytes at a time,
+// Whether some symbol has this first word.
+fn any_first(symbols: &[Symbol], first: u64) -> bool
+    ensures { result ≡ list_any (has_first first) symbols.now }
+{
+    symbols.iter().any(|symbol| word(symbol, 0) == first)
+}
+
+// Whether some symbol has these words.
+fn any_words(symbols: &[Symbol], w: NameWords) -> bool
+    ensures { result ≡ list_any (has_words w) symbols.now }
+{
+    symbols.iter().any(|symbol| has_words(symbol, w))
+}
+
+// Whether no symbol before this one has its name. Names are padded with zeros, so the whole fields are compared, eight bytes at a time,
 // and first the first eight bytes alone, in which most names differ.
-fn is_new(t: &[u8], i: usize) -> bool
-    requires { (56 * i + 56 ≤ length t.now) × (record_rules t.now i ≡ true) × (all_below (symbol_rules t.now) i ≡ true) }
-    ensures { result ≡ all_below (λ j. not (same_name (name_at t.now i) (name_at t.now j))) i }
+fn is_new(symbol: &Symbol, before: &[Symbol]) -> bool
+    requires { HoldsName symbol.now × All HoldsName before.now × All AreBytes before.now }
+    ensures { result ≡ list_all (λ r. not (same_name (name_at symbol.now 0) (name_at r 0))) before.now }
 {
-    let w = words_of(t, i);
-    let a = w.a;
-    if !any_first(t, i, a) {
-        return true;
-    }
-    let mut j: usize = 0;
-    while j < i {
-        if has_words(t, j, w) {
-            return false;
-        }
-        j += 1;
-    }
-    true
+    let w = words_of(symbol);
+    !any_first(before, w.words[0]) || !any_words(before, w)
 }
 
 fn is_table(t: &[u8]) -> bool
     ensures { result ≡ symbol_table t.now }
 {
-    if t.len() % 56 != 0 {
+    let (symbols, rest) = t.as_chunks::<56>();
+    if !rest.is_empty() {
         return false;
     }
-    let n = t.len() / 56;
-    if 256 < n {
+    if 256 < symbols.len() {
         return false;
     }
-    let mut i: usize = 0;
-    while i < n {
-        if !is_record(t, i) {
+    for (i, symbol) in symbols.iter().enumerate() {
+        if !is_symbol(symbol, i) {
             return false;
         }
-        if !is_new(t, i) {
+        if !is_new(symbol, &symbols[..i]) {
             return false;
         }
-        i += 1;
     }
     true
 }
 
 // RESOLVING
 
-// Whether record i has this name. The last byte is compared first, since names of one table tend to begin alike.
-fn is_named(t: &[u8], i: usize, name: &[u8]) -> bool
-    requires { (56 * i + 56 ≤ length t.now) × (record_rules t.now i ≡ true) }
-    ensures { result ≡ same_name (name_at t.now i) name.now }
+// Whether a symbol has this name. The last byte is compared first, since names of one table tend to begin alike.
+fn is_named(symbol: &Symbol, name: &[u8]) -> bool
+    requires { HoldsName symbol.now }
+    ensures { result ≡ same_name (name_at symbol.now 0) name.now }
 {
-    let at = 56 * i + 4;
-    if t[56 * i + 1] as usize != name.len() {
+    let own = name_of(symbol);
+    if own.len() != name.len() {
         return false;
     }
     let last = name.len() - 1;
-    if t[at + last] != name[last] {
+    if own[last] != name[last] {
         return false;
     }
-    let mut same = true;
-    let mut j: usize = 0;
-    while j < name.len() {
-        same = same & (t[at + j] == name[j]);
-        j += 1;
-    }
-    same
+    own == name
 }
 
-// The value of record i. An alias has the value of the lower-numbered record that it names.
-fn value_at(t: &[u8], i: usize) -> u32
-    requires { (symbol_table t.now ≡ true) × (i < symbols_in t.now) }
-    ensures { result ≡ value_at t.now i }
+// The value of record i. An alias has the value of the lower-numbered symbol that it names.
+fn value_at(symbols: &[Symbol], i: usize) -> u32
+    requires { (symbol_table (concat symbols.now) ≡ true) × (i < length symbols.now) }
+    ensures { result ≡ value_at (concat symbols.now) i }
 {
-    let r = record_at(t, i);
-    let number = get32(r, 52);
-    if r[0] == 0 {
+    let symbol = &symbols[i];
+    let number = number_of(symbol);
+    if symbol[0] == 0 {
         return number;
     }
-    value_at(t, number as usize)
+    value_at(symbols, number as usize)
 }
 
-fn resolve(t: &[u8], name: &[u8]) -> Symbol
-    requires { symbol_table t.now ≡ true }
-    ensures { result ≡ found_in t.now name.now }
+fn resolve(symbols: &[Symbol], name: &[u8]) -> Result<u32, Unresolved>
+    requires { symbol_table (concat symbols.now) ≡ true }
+    ensures { result ≡ found_in (concat symbols.now) name.now }
 {
-    let n = t.len() / 56;
-    let mut i: usize = 0;
-    while i < n {
-        if is_named(t, i, name) {
-            return Symbol::Value(value_at(t, i));
+    for (i, symbol) in symbols.iter().enumerate() {
+        if is_named(symbol, name) {
+            return Ok(value_at(symbols, i));
         }
-        i += 1;
     }
-    Symbol::Unknown
+    Err(Unresolved::Unknown)
 }
 
-// WHAT IS KNOWN
+// THE LENT TABLE
 
-pub fn known_of(t: &[u8]) -> Known
-    ensures { result ≡ known_of t.now }
-{
-    if is_table(t) {
-        Known::Right
-    } else {
-        Known::Wrong
-    }
+// The bytes lent as a symbol table, and whether they are one, if that was tested.
+#[derive(Clone, Copy)]
+pub struct Symbols<'a> {
+    bytes: &'a [u8],
+    known: Option<bool>,
+    ghost so: { (b : Bool) → known ≡ Some b → b ≡ symbol_table bytes.now },
 }
 
-fn is_table_by(t: &[u8], known: Known) -> bool
-    requires { KnownOf known t.now }
-    ensures { result ≡ symbol_table t.now }
-{
-    match known {
-        Known::Untested => is_table(t),
-        Known::Right => true,
-        Known::Wrong => false,
+impl<'a> Symbols<'a> {
+    pub fn untested(bytes: &'a [u8]) -> Symbols<'a>
+        ensures { result.bytes.now ≡ bytes.now }
+    {
+        Symbols { bytes, known: None }
     }
-}
 
-// What a name resolves to in the table, if it is one. It is tested where that is not known.
-pub fn symbol_of(t: &[u8], known: Known, name: &[u8]) -> Symbol
-    requires { KnownOf known t.now }
-    ensures { result ≡ symbol_of t.now name.now }
-{
-    if !is_table_by(t, known) {
-        return Symbol::NoTable;
+    pub fn tested(bytes: &'a [u8]) -> Symbols<'a>
+        ensures { result.bytes.now ≡ bytes.now }
+    {
+        let known = Some(is_table(bytes));
+        Symbols { bytes, known }
     }
-    resolve(t, name)
+
+    fn is_table(&self) -> bool
+        ensures { result ≡ symbol_table self.now.bytes.now }
+    {
+        match self.known {
+            Some(known) => known,
+            None => is_table(self.bytes),
+        }
+    }
+
+    // What a name resolves to in the table, if it is one.
+    pub fn resolve(&self, name: &[u8]) -> Result<u32, Unresolved>
+        ensures { result ≡ symbol_of self.now.bytes.now name.now }
+    {
+        if !self.is_table() {
+            return Err(Unresolved::NoTable);
+        }
+        let (symbols, _) = self.bytes.as_chunks::<56>();
+        resolve(symbols, name)
+    }
 }
 
 // A table record by record. This function does nothing: its contract is what is proved.

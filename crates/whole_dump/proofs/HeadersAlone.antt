@@ -1,5 +1,6 @@
 -- Sequence counts, ticks and data do not decide the number.
 -- Assumes nothing.
+use Rattle.std.specs.Prelude.{Result, Ok, Err}
 use mathlib.Core.Path.{◌≡◌, refl, sym, ap, ap₂, ◌∙◌}
 use mathlib.Core.Bool.{Bool, ◌&&◌, not}
 use mathlib.Core.List.{List}
@@ -18,12 +19,11 @@ use Rattle.rules.specs.Demand3.{packets_due}
 use Rattle.rules.specs.Results.{Row, lowest}
 use Rattle.rules.specs.Ground.{packet_fields, cut_rules, packet_rows, conclude_packet, read_packet}
 use Rattle.rules.specs.declared.DumpPacket.{DumpPacket}
-use Rattle.rules.specs.declared.Verdict.{Verdict}
-use Rattle.rules.specs.declared.Verdict.TheVariants.{Accepted, Rejected}
 use Rattle.whole_dump.specs.Check.{packet_count, length_at, bytes_before, packet_at, unfit, is_read, agree, piece_of, has, is_past, is_refused, disagrees, repeats, is_bad, pieces_due, is_missing, check_dump}
 use Rattle.whole_dump.specs.Numbers.{bytes_of}
 use Rattle.whole_dump.specs.HeadersAlone.{SameHeader, HeadersAlone}
 use Rattle.whole_dump.proofs.Tests.{before_is}
+use Rattle.rules.specs.declared.Refusal.{Refusal}
 
 -- TWO PACKETS with the same header but for count and tick are read alike
 
@@ -43,9 +43,9 @@ record Alike (p q : List ℕ) : Type 0 where
   reading : is_read (read_packet p).reading ≡ is_read (read_packet q).reading
 
 -- the verdict alone says whether it is read
-read_by_verdict : (p q : List ℕ) (v : Verdict) → is_read (conclude_packet p v).reading ≡ is_read (conclude_packet q v).reading
-read_by_verdict p q Accepted = refl
-read_by_verdict p q (Rejected r) = refl
+read_by_verdict : (p q : List ℕ) (v : Result (Unit {0}) Refusal) → is_read (conclude_packet p v).reading ≡ is_read (conclude_packet q v).reading
+read_by_verdict p q (Ok tt) = refl
+read_by_verdict p q (Err r) = refl
 
 module _ (other bytes : List ℕ) (long : length other ≡ length bytes) (at n : ℕ) (same : SameHeader other bytes at) where
   abbrev p : List ℕ

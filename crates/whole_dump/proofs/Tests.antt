@@ -1,5 +1,6 @@
 -- What each test of the check says, in logic.
 -- Assumes nothing.
+use Rattle.std.specs.Prelude.{Result, Ok, Err}
 use mathlib.Core.Path.{◌≡◌, refl, ap₂}
 use mathlib.Core.Logic.{◌↔◌}
 use mathlib.Core.Bool.{Bool, true, false, ◌||◌, not}
@@ -18,14 +19,14 @@ use Rattle.wire.proofs.ByByte.{at_two, at_four}
 use Rattle.rules.specs.States.{piece_words}
 use Rattle.rules.specs.Demand3.{pieces}
 use Rattle.rules.specs.Ground.{packet_fields, packet_number, read_packet}
-use Rattle.rules.specs.declared.PacketReading.{PacketReading}
-use Rattle.rules.specs.declared.PacketReading.TheVariants.{NoPacket, Packet}
 use Rattle.rules.proofs.Cases.{eqb_when, ltb_when, and_when, all_when}
 use Rattle.rules.proofs.Cover.{due_before}
 use Rattle.rules.proofs.LowestNumber.{number_some}
 use Rattle.rules.proofs.PacketTests.{packet_out}
 use Rattle.whole_dump.specs.Check.{most_packets, packet_count, length_at, bytes_before, packet_at, unfit, is_read, agree, piece_of, has, repeats, is_bad, pieces_due, is_missing}
 use Rattle.whole_dump.specs.Numbers.{bytes_of, Fits, IsRead, HasPiece, Agree, Listed, Sound, Missing}
+use Rattle.rules.specs.declared.Refusal.{Refusal}
+use Rattle.rules.specs.declared.DumpPacket.{DumpPacket}
 
 -- TESTS THAT FAIL
 
@@ -52,9 +53,9 @@ at_when a b k from word cut = (λ h. omega arith, λ h. omega arith)
 
 -- ONE PACKET
 
-reads_when : (r : PacketReading) → (is_read r ≡ true) ↔ (packet_number r ≡ 0)
-reads_when (NoPacket r) = (λ h. absurd (contra h refl), λ h. let l = number_some r in absurd (omega arith))
-reads_when (Packet f) = (λ h. refl, λ h. refl)
+reads_when : (r : Result DumpPacket Refusal) → (is_read r ≡ true) ↔ (packet_number r ≡ 0)
+reads_when (Err r) = (λ h. absurd (contra h refl), λ h. let l = number_some r in absurd (omega arith))
+reads_when (Ok f) = (λ h. refl, λ h. refl)
 
 module _ (p : List ℕ) where
   pub read_when : (is_read (read_packet p).reading ≡ true) ↔ IsRead p

@@ -1,5 +1,5 @@
 -- Paper 02, A6: the ground desk's check of another vendor's dump. Are these packets, up to 65, back to back and in any order, one whole dump?
-use Rattle.std.specs.Prelude.{Bool, true, false, ◌&&◌, ◌||◌, not, cond, List, ℕ, ◌+◌, ◌*◌, ◌-◌, ◌/◌, ◌%◌, ltb, eqb, length, take, drop}
+use Rattle.std.specs.Prelude.{Bool, true, false, ◌&&◌, ◌||◌, not, cond, List, ℕ, ◌+◌, ◌*◌, ◌-◌, ◌/◌, ◌%◌, ltb, eqb, length, take, drop, Result, Ok, Err}
 use Rattle.lists.specs.Below.{any_below, sum_below, first_below}
 use Rattle.wire.specs.Bytes.{be_at}
 use Rattle.rules.specs.Regions.{start_of}
@@ -7,8 +7,7 @@ use Rattle.rules.specs.States.{piece_words}
 use Rattle.rules.specs.Ground.{packet_fields, read_packet}
 use Rattle.rules.specs.Demand3.{packets_due}
 use Rattle.rules.specs.declared.DumpPacket.{DumpPacket}
-use Rattle.rules.specs.declared.PacketReading.{PacketReading}
-use Rattle.rules.specs.declared.PacketReading.TheVariants.{NoPacket, Packet}
+use Rattle.rules.specs.declared.Refusal.{Refusal}
 
 -- THE PACKETS. The list has a length of two bytes, big-endian, for each; a packet starts where the one before it ends. Packets and pieces are numbered
 -- from 0.
@@ -38,9 +37,9 @@ unfit bytes lengths =
 -- WHAT A PACKET SAYS
 
 -- the packet reader accepts it
-abbrev pub is_read : PacketReading → Bool
-is_read (NoPacket r) = false
-is_read (Packet f) = true
+abbrev pub is_read : Result DumpPacket Refusal → Bool
+is_read (Err r) = false
+is_read (Ok f) = true
 
 -- the same unit, transaction, requested address and requested words
 unfoldable pub agree : DumpPacket → DumpPacket → Bool

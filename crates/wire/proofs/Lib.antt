@@ -3,7 +3,6 @@ pub mod Lengths
 pub mod Words
 pub mod Undo
 pub mod WordRuns
-pub mod Swap
 pub mod Modulo
 pub mod Xor
 pub mod ByByte

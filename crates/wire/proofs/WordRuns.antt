@@ -2,11 +2,12 @@
 -- Assumes nothing.
 use mathlib.Core.Path.{◌≡◌, refl, sym}
 use mathlib.Core.List.{List, [], ◌∷◌, ◌++◌, append_assoc}
-use Prim.Native.Nat.{ℕ, ◌+◌, ◌*◌, ◌≤◌, ◌<◌}
+use Prim.Native.Nat.{ℕ, ◌+◌, ◌-◌, ◌*◌, ◌/◌, ◌%◌, ◌≤◌, ◌<◌}
 use native.Mathlib.Numerals.{add-one}
 use native.Mathlib.Omega.{arith}
 use lib.ListN.{length, take, get_or}
-use lib.Seq.{length-take-le, take-suc}
+use lib.Seq.{length-take-le, take-suc, drop-drop}
+use borrow.Rule.Slice.PartMut.{put_mid}
 use Rattle.lists.specs.Splice.{splice}
 use Rattle.lists.proofs.Runs.{splice_splice}
 use Rattle.wire.specs.Bytes.{be, word_bytes}
@@ -29,3 +30,16 @@ word_turn l b b' ws at i h room e e' =
     let n : i ≤ length ws = omega arith in
     let k : length (word_bytes (take i ws)) ≡ 4 * i = rw (word_bytes_length, length-take-le) in
     rw (e', e, word_bytes_more ws i h) (splice_splice l (word_bytes (take i ws)) (be 4 (get_or ws i 0)) at (at + 4 * i) (omega arith) (omega arith))
+
+-- the bytes of a word as the library has them, and put in the place of four
+pub four_bytes : (x : ℕ) → x / 16777216 % 256 ∷ x / 65536 % 256 ∷ x / 256 % 256 ∷ x % 256 ∷ [] ≡ be 4 x
+four_bytes x =
+    let second : x / 65536 ≡ x / 256 / 256 = omega arith in
+    let first : x / 16777216 ≡ x / 256 / 256 / 256 = omega arith in
+    rw (first, second)
+
+pub word_put : (l u : List ℕ) (at x : ℕ) → u ≡ be 4 x → put_mid at (at + 4 - at) l u ≡ splice l at (be 4 x)
+unfolding splice
+word_put l u at x e =
+    let four : at + 4 - at ≡ 4 = omega arith in
+    rw (four, e, drop-drop)

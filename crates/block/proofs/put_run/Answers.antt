@@ -1,15 +1,16 @@
 -- `block::put_run` meets its contract.
 -- Assumes nothing.
-use mathlib.Core.Path.{refl}
+use mathlib.Core.Path.{◌≡◌}
+use Prim.Native.Nat.{◌+◌, ◌-◌}
 use native.Mathlib.Omega.{arith}
-use borrow.Author.Rules.{rules}
+use lib.ListN.{length}
+use lib.Seq.{drop-drop}
+use Rattle.lists.specs.Splice.{splice}
 use Rattle.block.proofs.put_run.Goals as goal
 
-pub returns-then-b-at : goal.returns-then-b-at
-returns-then-b-at c = (λ h. absurd (omega arith), λ n. refl)
-
-pub returns-then-b-at-2 : goal.returns-then-b-at-2
-returns-then-b-at-2 c = (λ h. absurd (omega arith), λ n. refl)
-
 pub returns : goal.returns
-returns c = (λ h. search rules, λ n. absurd (n (omega arith)))
+unfolding splice
+returns c =
+    let at = c.args.at in
+    let n : at + length c.args.v.now - at ≡ length c.args.v.now = omega arith in
+    (λ h. rw (n, c.copy_from_slice.ensures.after, drop-drop), λ none. absurd (none (omega arith)))

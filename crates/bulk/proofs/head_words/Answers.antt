@@ -11,6 +11,9 @@ unfolding word_bytes
 returns c =
     let f = c.args.f in
     rw (
+      c.from-count.ensures,
+      c.from.ensures,
+      c.from-2.ensures,
       two_halves 788 (49152 + f.header.count) (omega arith),
       two_halves (28 + 4 * f.words - 7) (4096 * f.header.unit + f.header.transaction) (omega arith),
     )

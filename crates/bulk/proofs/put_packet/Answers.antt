@@ -5,14 +5,6 @@ use native.Mathlib.Omega.{arith}
 use Rattle.bulk.proofs.Packet.{head_then_words, test_fits, test_fails}
 use Rattle.bulk.proofs.put_packet.Goals as goal
 
-pub returns-then-not-packet_fits : goal.returns-then-not-packet_fits
-returns-then-not-packet_fits c = (λ h. absurd (test_fails _ _ _ c.packet_fits.ensures c.if-not-packet_fits.true-raw h), λ n. refl)
-
-pub head_words-head-requires : goal.head_words-head-requires
-head_words-head-requires c =
-    let fits = test_fits c.args.f c.args.words.now c.args.buffer.now c.packet_fits.ensures c.if-not-packet_fits.false-raw in
-    (fits.count, fits.unit, fits.transaction, omega arith)
-
 pub returns : goal.returns
 returns c =
     let fits = test_fits c.args.f c.args.words.now c.args.buffer.now c.packet_fits.ensures c.if-not-packet_fits.false-raw in (

@@ -12,7 +12,7 @@ use borrow.Author.Rules.{rules}
 use Rattle.bulk.proofs.store_run.Goals as goal
 
 pub loop-i-init : goal.loop-i-init
-loop-i-init c = (search rules, sym (splice_none _ _), search rules)
+loop-i-init c = (sym (splice_none _ _), search rules)
 
 pub loop-i-preserved : goal.loop-i-preserved
 loop-i-preserved c =
@@ -20,11 +20,11 @@ loop-i-preserved c =
     let i = c.loop-i.i in
     let ws = words_at a.n a.packet.now a.at in
     let k : i < length ws = omega (arith, words_at_length a.n a.packet.now a.at) in
-    let w : c.word_at-w.result ≡ get_or ws i 0 = c.word_at-w.ensures ∙ sym (words_at_word a.n _ _ i (omega arith)) in
-    (search rules, rw w (copy_turn a.words.now c.loop-i.words ws a.from i k (omega arith) c.loop-i.invariant.1), search rules)
+    let w : c.word_at.result ≡ get_or ws i 0 = c.word_at.ensures ∙ sym (words_at_word a.n _ _ i (omega arith)) in
+    (rw w (copy_turn a.words.now c.loop-i.words ws a.from i k (omega arith) c.loop-i.invariant.0), search rules)
 
 pub returns : goal.returns
 returns c =
     let a = c.args in
     let n : c.loop-i.i ≡ a.n = omega arith in
-    rw (n, first_words a.n a.n a.packet.now a.at (omega arith)) at c.loop-i.invariant.1
+    rw (n, first_words a.n a.n a.packet.now a.at (omega arith)) at c.loop-i.invariant.0

@@ -6,8 +6,8 @@ use Rattle.capi.proofs.lg_read_command.Goals as goal
 pub returns-then-command-ne21 : goal.returns-then-command-ne21
 returns-then-command-ne21 c = command_other _ _ c.if-command-ne21.true
 
-pub returns-in-Unread : goal.returns-in-Unread
-returns-in-Unread c = command_unread _ _ c.if-command-ne21.false _ c.reading_of-reading.ensures _ c.in-Unread.is _ c.refusal_number.ensures
+pub returns-in-Err : goal.returns-in-Err
+returns-in-Err c = command_unread _ _ c.if-command-ne21.false _ c.reading_of.ensures _ c.in-Err.is _ c.from.ensures
 
-pub returns-in-Read : goal.returns-in-Read
-returns-in-Read c = command_done _ _ c.if-command-ne21.false _ c.reading_of-reading.ensures _ c.in-Read.is _ c.head_words-head.ensures _ c.put_run.ensures.0 _ c.put_beside.ensures.0 _ c.tail_words-tail.ensures _ c.put_run-in-Read.ensures.0
+pub returns-in-Ok : goal.returns-in-Ok
+returns-in-Ok c = command_done _ _ c.if-command-ne21.false _ c.reading_of.ensures _ c.in-Ok.is _ c.head_words.ensures _ c.put_run.ensures.0 _ c.put_beside.ensures.0 _ c.tail_words.ensures _ c.put_run-in-Ok.ensures.0

@@ -1,10 +1,13 @@
 -- `command_reader::reading_of` meets its contract.
 -- Assumes nothing.
+use Rattle.std.proofs.lemmas.Result.{err_from_is_err_and}
 use Rattle.command_reader.proofs.Steps.{reading_is}
 use Rattle.command_reader.proofs.reading_of.Goals as goal
 
-pub returns-in-Rejected : goal.returns-in-Rejected
-returns-in-Rejected c = rw (← reading_is _, ← c.headed-head.ensures, c.in-Rejected.is)
+pub returns-in_err-headed : goal.returns-in_err-headed
+returns-in_err-headed c =
+    let p = err_from_is_err_and c.from_residual.result c.from_residual.ensures.1 in
+    rw (p.1, p.2, ← reading_is _, ← c.headed.ensures, c.in_err-headed.was)
 
-pub returns-in-Accepted : goal.returns-in-Accepted
-returns-in-Accepted c = rw (← reading_is _, ← c.headed-head.ensures, c.in-Accepted.is) c.by_code.ensures
+pub returns : goal.returns
+returns c = rw (← reading_is _, ← c.headed.ensures, c.in_ok-headed.was) c.by_code.ensures

@@ -13,6 +13,3 @@ use Rattle.command_writer.proofs.put_data.Given as goal
 abbrev pub invariant-loop-i : goal.invariant-loop-i
 invariant-loop-i l = (l.i ≤ 11) × (l.b ≡ splice l.initial.b 16 (word_bytes (take l.i (used_words l.size l.words)))) × (length l.b ≡ length l.initial.b)
     × (xor_all (be 4 l.all) ≡ xor_all (word_bytes (take l.i (used_words l.size l.words))))
-
-abbrev pub decreases-loop-i : goal.decreases-loop-i
-decreases-loop-i l = 11 - l.i

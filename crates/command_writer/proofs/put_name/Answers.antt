@@ -28,7 +28,7 @@ unfolding word_bytes
 loop-i-preserved c =
     let a = c.args in
     let name = name_bytes a.n a.words.now in
-    let third = a.id * 65536 + c.wide32.result * 256 in
+    let third = a.id * 65536 + c.from.result * 256 in
     let turn =
     name_turn c.put_words.new.b c.loop-i.b c.put_words-in-loop-i.new.b name (be 4 third) 12 c.loop-i.i c.name_word-w.result c.loop-i.all c.loop-i-test.true
     (name_length a.n a.words.now)
@@ -47,8 +47,8 @@ returns c =
     let name = name_bytes a.n a.words.now in
     let n = name_length a.n a.words.now in
     let all : take (4 * c.loop-i.i) name ≡ name = take_all (4 * c.loop-i.i) name (omega arith) in
-    let third = third_word a.id a.n c.wide32.result c.wide32.ensures.0 (omega arith) name in
-    let front = be 4 (a.id * 65536 + c.wide32.result * 256) in (
+    let third = third_word a.id a.n c.from.result c.from.ensures (omega arith) name in
+    let front = be 4 (a.id * 65536 + c.from.result * 256) in (
       rw all at c.loop-i.invariant.1
           ∙ ap (λ (b : List ℕ). splice b 12 name) (c.put_words.ensures.0 (omega arith))
           ∙ splice_splice a.b.now front name 8 12 refl (omega arith)

@@ -13,6 +13,3 @@ use Rattle.command_writer.proofs.put_name.Given as goal
 abbrev pub invariant-loop-i : goal.invariant-loop-i
 invariant-loop-i l = (l.i ≤ 12) × (l.b ≡ splice l.initial.b 12 (take (4 * l.i) (name_bytes l.n l.words))) × (length l.b ≡ length l.initial.b)
     × (xor_all (be 4 l.all) ≡ xor_all (be 4 l.third ++ take (4 * l.i) (name_bytes l.n l.words)))
-
-abbrev pub decreases-loop-i : goal.decreases-loop-i
-decreases-loop-i l = 12 - l.i

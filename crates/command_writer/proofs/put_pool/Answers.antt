@@ -13,5 +13,5 @@ pub returns : goal.returns
 unfolding word_bytes
 returns c =
     let a = c.args in
-    let e = two_halves a.id a.pool (omega arith) [] in
-    (c.put_words.ensures.0 (omega arith) ∙ ap (splice a.b.now 8) e, ap xor_all e)
+    let e = two_halves a.id c.from.result (omega arith) [] in
+    rw (← c.from.ensures) (c.put_words.ensures.0 (omega arith) ∙ ap (splice a.b.now 8) e, ap xor_all e)

@@ -14,9 +14,9 @@ pub returns : goal.returns
 unfolding word_bytes
 returns c =
     let a = c.args in
-    let third = a.id * 65536 + a.q.size in
+    let third = a.id * 65536 + c.from.result in
     let address = a.q.address.0 in
-    let e = two_halves a.id a.q.size (omega arith) (be 4 address) in (
+    let e = two_halves a.id c.from.result (omega arith) (be 4 address) in rw (← c.from.ensures) (
       c.put_words.ensures.0 (omega arith) ∙ ap (splice a.b.now 8) e,
       both_words third address (be 4 third) (be 4 address) refl refl ∙ ap xor_all e,
     )

@@ -14,7 +14,7 @@ returns-then-not-header_rules-field_rules c =
 
 pub put_rest-rest-requires : goal.put_rest-rest-requires
 put_rest-rest-requires c = (
-  rest_fits _ _ (rules_hold _ _ _ _ c.header_rules.ensures c.field_rules.ensures c.if-not-header_rules-field_rules.false-raw) _ c.wide32.ensures.0,
+  rw c.from-2.ensures (rest_fits c.args.h _ (rules_hold _ _ _ _ c.header_rules.ensures c.field_rules.ensures c.if-not-header_rules-field_rules.false-raw) _ c.from.ensures),
   omega (arith, c.packet_length-n.ensures, c.if-buffer-n.false),
 )
 
@@ -29,7 +29,8 @@ put_start-requires c =
 pub returns : goal.returns
 returns c =
     let rules = rules_hold _ _ _ _ c.header_rules.ensures c.field_rules.ensures c.if-not-header_rules-field_rules.false-raw in
-    packet_written _ _ _ c.packet_length-n.ensures _ _ c.if-buffer-n.false _ c.wide32.ensures.0 _ _ c.code_of.ensures rules _ _
-    c.put_rest-rest.ensures.0
-    c.put_rest-rest.ensures.1
+    packet_written c.args.h _ _ c.packet_length-n.ensures c.args.words.now _ c.if-buffer-n.false _ c.from.ensures _ c.put_rest-rest.result c.code_of.ensures rules
+    c.put_rest-rest.new.b _
+    (rw (← c.from-2.ensures) c.put_rest-rest.ensures.0)
+    (rw (← c.from-2.ensures) c.put_rest-rest.ensures.1)
     c.put_start.ensures

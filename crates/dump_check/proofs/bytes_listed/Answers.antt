@@ -10,15 +10,10 @@ use Rattle.dump_check.proofs.bytes_listed.Goals as goal
 
 pub loop-i-init : goal.loop-i-init
 unfolding bytes_before
-loop-i-init c = (search rules, refl, search rules)
+loop-i-init c = (refl, search rules)
 
 pub loop-i-preserved : goal.loop-i-preserved
 unfolding bytes_before
 loop-i-preserved c =
     let lengths = c.args.lengths.now in
-    (search rules, ap₂ (λ x y. x + y) c.loop-i.invariant.1 c.read16.ensures ∙ sym (sum_more (length_at lengths) c.loop-i.i), search rules)
-
-pub returns : goal.returns
-returns c =
-    let e : c.loop-i.i ≡ c.args.n = omega arith in
-    rw e at c.loop-i.invariant.1
+    (ap₂ (λ x y. x + y) c.loop-i.invariant.0 (c.from-total.ensures ∙ c.read16.ensures) ∙ sym (sum_more (length_at lengths) c.loop-i.i), search rules)

@@ -1,35 +1,26 @@
--- `lent_batch::answered` meets its contract: the two arrays begin with the numbers and the lengths of the answers.
+-- `lent_batch::answered` meets its contract: a block of 80 words is a store, and one of another length is no state.
 -- Assumes nothing.
-use mathlib.Core.Path.{refl, ap, ◌∙◌}
-use lib.ListN.{replicate}
+use mathlib.Core.Path.{refl, sym, ap, ◌∙◌}
 use Rattle.rules.specs.Results.{verdict_number}
 use Rattle.batches.specs.Batch.{lends}
-use Rattle.batches.proofs.Whole.{room_long, given, not_given}
+use Rattle.batches.proofs.Whole.{verdict_is}
 use Rattle.lent_batch.specs.Batches.{on_block}
+use Rattle.lent_batch.proofs.OnBlock.{words_stay, batch_is, left_is}
 use Rattle.lent_batch.proofs.answered.Goals as goal
 
-pub slice_bounds-commands-end : goal.slice_bounds-commands-end
-slice_bounds-commands-end c = room_long _ c.lesser-room.ensures (replicate 64 0) refl
+pub answered-requires : goal.answered-requires
+answered-requires c = words_stay
 
-pub slice_bounds-commands-end-2 : goal.slice_bounds-commands-end-2
-slice_bounds-commands-end-2 c = room_long _ c.lesser-room.ensures (replicate 64 0) refl
-
-pub returns-then-number-eq0 : goal.returns-then-number-eq0
-returns-then-number-eq0 c =
+pub returns-in-Some : goal.returns-in-Some
+returns-in-Some c =
     let a = c.args in
-    let n = c.verdict_number-number.ensures in
-    let g =
-    given a.records c.lesser-room.ensures (replicate 64 0) refl on_block a.b.now
-    (lends a.bytes.now a.starts.now a.lengths.now a.symbols.now a.image.now a.replies.now) c.commands-verdict.ensures _
-    n c.if-number-eq0.true refl in
-    (n ∙ ap verdict_number g.0, g.1, g.2)
+    let whole = c.in-Some.ensures.cases in
+    rw (whole.same, batch_is a.b.now (lends a.bytes.now a.starts.now a.lengths.now a.symbols.now a.image.now a.replies.now) _ whole.long (c.slice_known-1.given 0).fits) at c.answered.ensures
 
-pub returns-else-number-eq0 : goal.returns-else-number-eq0
-returns-else-number-eq0 c =
+pub returns-in-None : goal.returns-in-None
+returns-in-None c =
     let a = c.args in
-    let n = c.verdict_number-number.ensures in
-    let g =
-    not_given a.records c.lesser-room.ensures (replicate 64 0) refl on_block a.b.now
-    (lends a.bytes.now a.starts.now a.lengths.now a.symbols.now a.image.now a.replies.now) c.commands-verdict.ensures _
-    n c.if-number-eq0.false refl in
-    (n ∙ ap verdict_number g.0, g.1, g.2)
+    let lent = lends a.bytes.now a.starts.now a.lengths.now a.symbols.now a.image.now a.replies.now in
+    let n = c.refused_answers.ensures in
+    let e = left_is a.b.now c.in-None.ensures.cases lent a.records in
+    (n.0 ∙ ap verdict_number (sym (verdict_is on_block a.b.now lent _)), rw e n.1, rw e (refl, refl, refl))

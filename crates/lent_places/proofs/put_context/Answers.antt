@@ -1,13 +1,11 @@
 -- `lent_places::put_context` meets its contract.
 -- Assumes nothing.
+use mathlib.Core.Logic.{⊎_elim}
 use Rattle.lent_places.proofs.Steps.{other_length, no_place, place_written}
 use Rattle.lent_places.proofs.put_context.Goals as goal
 
-pub returns-then-b-ne80 : goal.returns-then-b-ne80
-returns-then-b-ne80 c = other_length _ _ _ c.if-b-ne80.true
+pub returns-then-i-lt4 : goal.returns-then-i-lt4
+returns-then-i-lt4 c = place_written _ _ _ c.if-b-eq80.true c.if-i-lt4.true c.context_words.ensures c.put_run.ensures.0
 
-pub returns-then-i-ge4 : goal.returns-then-i-ge4
-returns-then-i-ge4 c = no_place _ _ _ c.if-b-ne80.false c.if-i-ge4.true
-
-pub returns : goal.returns
-returns c = place_written _ _ _ c.if-b-ne80.false c.if-i-ge4.false c.context_words-v.ensures c.put_run.ensures.0
+pub returns-else-b-eq80 : goal.returns-else-b-eq80
+returns-else-b-eq80 c = ⊎_elim (λ h. no_place _ _ _ h.0 h.1) (λ h. other_length _ _ _ h) c.else-b-eq80.either

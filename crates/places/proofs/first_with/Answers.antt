@@ -1,27 +1,18 @@
 -- `places::first_with` meets its contract.
 -- Assumes nothing.
-use mathlib.Core.Path.{refl, sym, ◌∙◌}
-use native.Mathlib.Omega.{arith}
+use mathlib.Core.Path.{◌≡◌, ◌∙◌}
+use mathlib.Core.Bool.{Bool, true, false}
+use Prim.Native.Nat.{ℕ}
+use Rattle.std.proofs.Common.{rules}
+use Rattle.std.proofs.lemmas.Iterator.{first_from_Range}
+use Rattle.rules.specs.States.{context_at, busy_with}
 use Rattle.places.specs.Turns.{first_within}
-use Rattle.places.proofs.Steps.{go_on, stop_here, none_left}
+use Rattle.places.proofs.Steps.{first_found_is}
 use Rattle.places.proofs.first_with.Goals as goal
-
-pub loop-i-init : goal.loop-i-init
-loop-i-init c = (omega arith, refl)
-
-pub returns-then-busy_with : goal.returns-then-busy_with
-unfolding first_within
-returns-then-busy_with c =
-    let l = c.loop-i in
-    let e = rw c.context_at.ensures at c.busy_with.ensures in
-    stop_here _ l.i l.invariant.1 _ c.loop-i-test.true (sym e ∙ c.if-busy_with.true)
-
-pub loop-i-preserved : goal.loop-i-preserved
-loop-i-preserved c =
-    let l = c.loop-i in
-    let e = rw c.context_at.ensures at c.busy_with.ensures in
-    (omega arith, go_on _ l.i l.invariant.1 (sym e ∙ c.if-busy_with.false))
 
 pub returns : goal.returns
 unfolding first_within
-returns c = let l = c.loop-i in none_left _ l.i l.invariant.1 c.args.k (omega arith)
+returns g c =
+    let p : ℕ → Bool = λ i. busy_with c.args.t (context_at (g.P.Places.places c.args.ps.now) i) in
+    c.unwrap_or.ensures
+    ∙ first_found_is p c.args.k _ (first_from_Range _ _ _ _ (λ i. p i ≡ true) (λ i. p i ≡ false) c.find.ensures.ran (λ x q h. search rules) (λ x q h. search rules))

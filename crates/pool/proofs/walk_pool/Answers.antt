@@ -1,11 +1,12 @@
 -- `pool::walk_pool` meets its contract.
 -- Assumes nothing.
 use borrow.Author.Rules.{rules}
-use mathlib.Core.Path.{sym, ◌∙◌}
+use mathlib.Core.Path.{sym, ap, ◌∙◌}
+use Rattle.std.specs.Prelude.{Some}
 use native.Mathlib.Omega.{arith}
 use lib.ListN.{get_or}
 use Rattle.rules.specs.Pools.{block_of, blocks_of}
-use Rattle.pool.proofs.Blocks.{told, told_next, tallied_words, tallied_blocks, joined_start, joined_end, joined_zero, joined_out, joined_next}
+use Rattle.pool.proofs.Blocks.{same_figures, told, told_next, tallied_words, tallied_blocks, joined_start, joined_end, joined_zero, joined_out, joined_next}
 use Rattle.pool.proofs.walk_pool.Goals as goal
 
 pub loop-at-init : goal.loop-at-init
@@ -37,5 +38,5 @@ loop-at-preserved c =
 
 pub returns : goal.returns
 returns c =
-    rw c.usable_words-usable.ensures
-    (sym (joined_end (told c.loop-at.t c.loop-at.at) c.args.pool.now c.loop-at.at (omega arith)) ∙ c.loop-at.invariant.4)
+    let f = told c.loop-at.t c.loop-at.at in
+    ap Some (same_figures {g = f} (omega arith)) ∙ sym (joined_end f c.args.pool.now c.loop-at.at (omega arith)) ∙ c.loop-at.invariant.4

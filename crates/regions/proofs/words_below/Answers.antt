@@ -9,12 +9,8 @@ use Rattle.regions.proofs.words_below.Goals as goal
 
 pub loop-i-init : goal.loop-i-init
 unfolding words_below
-loop-i-init c = search rules
+loop-i-init g c = search rules
 
 pub loop-i-preserved : goal.loop-i-preserved
-loop-i-preserved c = (search rules, rw c.loop-i.invariant.1 (words_more c.args.rs c.loop-i.i), search rules)
-
-pub returns : goal.returns
-returns c =
-    let i : c.loop-i.i ≡ c.args.k = let h = c.loop-i.invariant.0 in let t = c.loop-i-test.false in omega arith in
-    rw (← i) (c.loop-i.invariant.1, c.loop-i.invariant.2)
+loop-i-preserved g c =
+    (search rules, rw (c.loop-i.invariant.1, c.entry.ensures) (words_more (g.T.Table.entries c.args.rs.now) c.loop-i.i), search rules)

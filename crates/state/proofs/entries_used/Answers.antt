@@ -1,9 +1,8 @@
 -- `state::entries_used` meets its contract.
 -- Assumes nothing.
-use mathlib.Core.Path.{◌≡◌, ap, ◌∙◌}
+use mathlib.Core.Path.{◌≡◌}
 use native.Mathlib.Omega.{arith}
 use lib.ListN.{length}
-use Rattle.rules.specs.States.{entries_used}
 use Rattle.state.proofs.Steps.{used_none, used_more}
 use borrow.Author.Rules.{rules}
 use Rattle.state.proofs.entries_used.Goals as goal
@@ -16,8 +15,3 @@ loop-i-preserved c =
     let rs = c.args.rs in
     let sixteen : length rs ≡ 16 = search rules in
     (search rules, rw c.loop-i.invariant.1 (used_more rs c.loop-i.i sixteen (omega arith)))
-
-pub returns : goal.returns
-returns c =
-    let e : c.loop-i.i ≡ c.args.n = omega arith in
-    c.loop-i.invariant.1 ∙ ap (entries_used c.args.rs) e

@@ -1,17 +1,13 @@
 -- `state::places_rules` meets its contract.
 -- Assumes nothing.
-use mathlib.Core.Path.{◌≡◌}
-use lib.ListN.{length}
 use borrow.Author.Tests.{eq-eqb}
 use Rattle.rules.specs.States.{places_rules}
-use borrow.Author.Rules.{rules}
 use Rattle.state.proofs.places_rules.Goals as goal
 
 pub returns : goal.returns
 unfolding places_rules
-returns c =
-    let four : length c.args.ps ≡ 4 = search rules in
-    λ h. rw (
+returns g c =
+    λ h four. rw (
       c.place_rules.ensures h,
       c.place_rules-2.ensures h,
       c.place_rules-3.ensures h,

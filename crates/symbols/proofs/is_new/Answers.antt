@@ -1,30 +1,27 @@
 -- `symbols::is_new` meets its contract.
 -- Assumes nothing.
 use mathlib.Core.Path.{◌≡◌, sym, ◌∙◌}
+use mathlib.Core.Bool.{false}
+use mathlib.Core.List.{[]}
 use native.Mathlib.Omega.{arith}
-use Rattle.lists.proofs.Below.{all_more}
-use Rattle.symbols.proofs.Logic.{is_new}
-use Rattle.symbols.proofs.Steps.{all_not}
-use Rattle.symbols.proofs.Words.{words_named, first_new}
-use borrow.Author.Rules.{rules}
+use Rattle.std.specs.List.{list_any}
+use Rattle.symbols.specs.Words.{word, has_first}
+use Rattle.symbols.proofs.Words.{IsNamed, EachNamed, first_new, words_new}
 use Rattle.symbols.proofs.is_new.Goals as goal
 
 pub returns-then-not-any_first : goal.returns-then-not-any_first
-returns-then-not-any_first c = first_new c.args.t.now c.args.i c.requires _ c.words_of-w.ensures (sym c.any_first.ensures ∙ c.if-not-any_first.true)
+returns-then-not-any_first c =
+    let r = c.args.symbol.now in
+    let before = c.args.before.now in
+    let own : IsNamed r = record { size = c.told-symbol; bytes = λ x. omega (arith, c.fits-symbol x); name = c.requires.0 } in
+    let each : EachNamed before = λ k l. record { size = c.told-before k l; bytes = c.requires.2 k [] l; name = c.requires.1 k [] l } in
+    let none : list_any (has_first (word r 0)) before ≡ false = rw c.words_of-w.ensures at (sym c.any_first.ensures ∙ c.if-not-any_first.true) in
+    rw c.if-not-any_first.true (first_new r own before each none)
 
-pub returns-then-has_words : goal.returns-then-has_words
-returns-then-has_words c =
-    let named = words_named c.args.t.now c.args.i c.requires _ c.words_of-w.ensures (λ x. (c.shared_slice_known-1.given x).fits) {j = c.loop-j.j} (omega arith) in
-    let one = sym named ∙ sym c.has_words.ensures ∙ c.if-has_words.true in
-    all_not (is_new c.args.t.now c.args.i) c.args.i {i = c.loop-j.j} (omega arith) (rw one)
-
-pub loop-j-preserved : goal.loop-j-preserved
-loop-j-preserved c =
-    let named = words_named c.args.t.now c.args.i c.requires _ c.words_of-w.ensures (λ x. (c.shared_slice_known-1.given x).fits) {j = c.loop-j.j} (omega arith) in
-    let none = sym named ∙ sym c.has_words.ensures ∙ c.if-has_words.false in
-    (search rules, rw (all_more (is_new c.args.t.now c.args.i) c.loop-j.j, c.loop-j.invariant.1, none))
-
-pub returns : goal.returns
-returns c =
-    let e : c.loop-j.j ≡ c.args.i = omega arith in
-    sym (rw e at c.loop-j.invariant.1)
+pub returns-else-not-any_first : goal.returns-else-not-any_first
+returns-else-not-any_first c =
+    let r = c.args.symbol.now in
+    let before = c.args.before.now in
+    let own : IsNamed r = record { size = c.told-symbol; bytes = λ x. omega (arith, c.fits-symbol x); name = c.requires.0 } in
+    let each : EachNamed before = λ k l. record { size = c.told-before k l; bytes = c.requires.2 k [] l; name = c.requires.1 k [] l } in
+    rw (c.any_words.ensures, c.words_of-w.ensures) (words_new r own before each)

@@ -7,12 +7,6 @@ use Rattle.tasks.proofs.name_in.Goals as goal
 pub returns-then-p-lt12 : goal.returns-then-p-lt12
 returns-then-p-lt12 c = name_none c.args.p.now (omega arith)
 
-pub overflow_cast-end : goal.overflow_cast-end
-overflow_cast-end c = omega (arith, c.shared_slice_known-1.given 10)
-
-pub overflow_add-end : goal.overflow_add-end
-overflow_add-end c = omega (arith, c.shared_slice_known-1.given 10)
-
 pub returns-then-p-end : goal.returns-then-p-end
 returns-then-p-end c = name_cut c.args.p.now (omega arith)
 

@@ -4,9 +4,6 @@ use Rattle.tasks.specs.Asked.{asked_of}
 use Rattle.rules.specs.Packets.{field_rules}
 use Rattle.tasks.proofs.pool_statistics.Goals as goal
 
-pub returns-in-Rejected : goal.returns-in-Rejected
-returns-in-Rejected c symbols = rw c.in-Rejected.is
-
 pub returns : goal.returns
 unfolding asked_of field_rules
-returns c symbols = rw (c.in_default.is, c.if_right.ensures, c.pool_rules.ensures, c.get16-i.ensures)
+returns c symbols = rw (c.if_right.ensures, c.pool_rules.ensures, c.get16-i.ensures)

@@ -1,8 +1,6 @@
 -- `wire::put_run` meets its contract.
 -- Assumes nothing.
 use mathlib.Core.Path.{sym}
-use Prim.Native.Nat.{◌≤◌}
-use lib.ListN.{length}
 use lib.Seq.{take_all}
 use Rattle.lists.proofs.Runs.{splice_none}
 use Rattle.wire.specs.Bytes.{word_bytes}
@@ -12,13 +10,10 @@ use Rattle.wire.proofs.put_run.Goals as goal
 
 pub loop-i-init : goal.loop-i-init
 unfolding word_bytes
-loop-i-init c = (search rules, sym (splice_none _ _), search rules)
+loop-i-init c = (sym (splice_none _ _), search rules)
 
 pub loop-i-preserved : goal.loop-i-preserved
-loop-i-preserved c = let turn = word_turn c.args.b.now c.loop-i.b c.put_word.new.b c.args.words.now c.args.at c.loop-i.i c.loop-i-test.true c.requires c.loop-i.invariant.1 c.put_word.ensures in
-    (search rules, turn, search rules)
-
-pub returns : goal.returns
-returns c = let ws = c.args.words.now in
-    let h : length ws ≤ c.loop-i.i = c.loop-i-test.false in
-    rw (take_all c.loop-i.i ws h) at c.loop-i.invariant.1
+loop-i-preserved c = (
+  word_turn c.args.b.now c.loop-i.b c.put_word.new.b c.args.words.now c.args.at c.loop-i.i c.loop-i-test.true c.requires c.loop-i.invariant.0 c.put_word.ensures,
+  search rules,
+)

@@ -1,10 +1,9 @@
 -- `wire::xor_word` meets its contract.
 -- Assumes nothing.
-use Prim.Native.Nat.{◌%◌}
-use lib.Bits.{xor_zero_r}
-use Rattle.wire.specs.Xor.{xor_all}
+use mathlib.Core.Path.{◌∙◌}
+use Rattle.wire.proofs.WordRuns.{four_bytes}
+use Rattle.wire.proofs.Xor.{four_joined}
 use Rattle.wire.proofs.xor_word.Goals as goal
 
 pub returns : goal.returns
-unfolding xor_all
-returns c = rw (xor_zero_r (c.args.x % 256))
+returns c = rw (c.to_be_bytes.ensures ∙ four_bytes c.args.x) (four_joined _ _ _ _)

@@ -1,6 +1,0 @@
--- `results::answer_number` meets its contract.
--- Assumes nothing.
-use Rattle.results.proofs.answer_number.Goals as goal
-
-pub returns-in-Refused : goal.returns-in-Refused
-returns-in-Refused c = rw c.in-Refused.is c.refusal_number.ensures
