@@ -11,7 +11,7 @@ ghost use Rattle.batch.specs.OnStore.{single_in, words_in, WordsStay};
 use answers::{Answered, ItemAnswer, put_records};
 use batches::{BatchReturned, batch_verdict, bytes_from};
 use command::call;
-use packet::{code, function_code};
+use packet::{checked, code, function_code, headed, lengths};
 use results::{answer_length, number_of};
 use rules::{Refusal, State};
 use state::Store;
@@ -42,19 +42,33 @@ fn item<S: Store>(
     sizes[i] = (answer_length(answer) % 256) as u8;
 }
 
-// Whether an item may name a symbol, by its function code.
-fn names_symbol(bytes: &[u8], starts: &[u32], lengths: &[u32]) -> bool {
-    starts.iter().zip(lengths).any(|(start, length)| {
-        let packet = bytes_from(bytes, *start, *length);
-        matches!(function_code(packet), code::VALUE | code::NAMED_DUMP)
-    })
+// Whether a command comes as far as the symbol table: it names a symbol, and passes numbers 4 to 8.
+fn asks_symbols(packet: &[u8], unit: u8) -> bool {
+    let bytes = match function_code(packet) {
+        code::VALUE => lengths::VALUE,
+        code::NAMED_DUMP => lengths::NAMED_DUMP,
+        _ => return false,
+    };
+    checked(packet, unit, bytes).is_ok() && headed(packet).is_ok()
 }
 
-// The symbol table is tested once for all items, and only if one may name a symbol.
-fn symbols_for<'a>(bytes: &[u8], starts: &[u32], lengths: &[u32], symbols: &'a [u8]) -> Symbols<'a>
+// The symbol table is tested once for all items, and only if one comes as far as it. `lent` says whether numbers 1 and 2 are passed.
+fn symbols_for<'a>(
+    lent: bool,
+    unit: u8,
+    bytes: &[u8],
+    starts: &[u32],
+    sizes: &[u32],
+    symbols: &'a [u8],
+) -> Symbols<'a>
     ensures { result.bytes.now ≡ symbols.now }
 {
-    if names_symbol(bytes, starts, lengths) {
+    let asked = lent
+        && starts.iter().zip(sizes).any(|(start, size)| asks_symbols(
+            bytes_from(bytes, *start, *size),
+            unit,
+        ));
+    if asked {
         return Symbols::tested(symbols);
     }
     Symbols::untested(symbols)
@@ -78,7 +92,8 @@ fn run<S: Store>(
         × (sizes.new ≡ filled sizes.old (lengths_of left.answers)) }
 {
     let words = s.good_words();
-    let table = symbols_for(bytes, starts, lengths, symbols);
+    let lent = words != 0 && image.len() == words;
+    let table = symbols_for(lent, s.unit(), bytes, starts, lengths, symbols);
     for i in 0..starts.len() {
         let packet = bytes_from(bytes, starts[i], lengths[i]);
         item(s, words, packet, &table, image, replies, numbers, sizes, i);

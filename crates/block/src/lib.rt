@@ -56,6 +56,16 @@ pub fn raise(b: &mut [u32], i: usize, most: u32)
     set_word(b, i, more as u32);
 }
 
+// The words of `v`, from index `at` on. Kept word by word: of the library's copy the compiler makes a call of `memmove`, and the archive needs `memset` alone.
+fn copy_run(b: &mut [u32], at: usize, v: &[u32])
+    requires { at + length v.now ≤ length b.old }
+    ensures { b.new ≡ splice b.old at v.now }
+{
+    for (i, word) in v.iter().enumerate() {
+        b[at + i] = *word;
+    }
+}
+
 // The words of `v`, from index `at` on. Where they do not fit, nothing is written.
 pub fn put_run(b: &mut [u32], at: usize, v: &[u32])
     ensures { (at + length v.now ≤ length b.old → b.new ≡ splice b.old at v.now)
@@ -67,7 +77,7 @@ pub fn put_run(b: &mut [u32], at: usize, v: &[u32])
     if b.len() - at < v.len() {
         return;
     }
-    b[at..at + v.len()].copy_from_slice(v);
+    copy_run(b, at, v);
 }
 
 // WHAT A BLOCK SAYS

@@ -3,7 +3,7 @@
 #![tactic(auto)]
 
 use command_writer::write_command;
-use report::{show_answer, show_command, show_result};
+use report::{front, show_answer, show_command, show_result};
 use results::answer_length;
 use rules::{Address, Command, Header, Range, Region, Request, Returned, State, SymbolRequest};
 use std::io;
@@ -152,7 +152,7 @@ fn turn(
             words[0] = word;
             let mut packet = [0; 68];
             let n = answer_length(write_command(header, command, &words, &mut packet));
-            let packet = &packet[..n.min(packet.len())];
+            let packet = front(&packet, n);
             show_command(rt, packet)?;
             Ok(command::command(s, packet, &symbols(), image, buffer))
         }

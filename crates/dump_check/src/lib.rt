@@ -15,11 +15,11 @@ fn bytes_listed(lengths: &[u8], n: usize) -> usize
     requires { (n ≤ 65) × (2 * n ≤ length lengths.now) }
     ensures { result ≡ bytes_before lengths.now n }
 {
-    let mut total = 0;
+    let mut total: u32 = 0;
     for i in 0..n {
-        total += usize::from(read16(lengths, 2 * i));
+        total += u32::from(read16(lengths, 2 * i));
     }
-    total
+    total as usize
 }
 
 // Number 3.

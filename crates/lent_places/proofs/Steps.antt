@@ -11,13 +11,14 @@ use lib.Dec.{leb, eqb}
 use lib.ListN.{length}
 use borrow.Author.Tests.{le-leb, lt-leb, lt-ltb, le-ltb, eq-eqb, ne_eqb}
 use Rattle.lists.specs.Splice.{splice}
+use Rattle.rules.specs.Commands.{is_idle, first_idle}
 use Rattle.rules.specs.States.{context_at, busy_with, idle_place}
 use Rattle.rules.specs.declared.Context.{Context}
 use Rattle.rules.specs.declared.Context.TheVariants.{Idle, Busy}
 use Rattle.rules.specs.declared.Place.{Place}
 use Rattle.rules.specs.declared.Range.{Range}
 use Rattle.lists.specs.Below.{first_below}
-use Rattle.lists.proofs.Below.{none_of, first_none, first_is}
+use Rattle.lists.proofs.Below.{none_of, first_none, first_is, first_same}
 use Rattle.lists.proofs.Tests.{either, by_lt}
 use Rattle.rules.proofs.Good.{context_past}
 use Rattle.block.specs.Blocks.{context_words, word, range_in, context_in, place_in, places_in, place_bounds}
@@ -75,6 +76,13 @@ module _ (b : List ℕ) where
       pub busy_read : w ≡ 1 → (t : ℕ) → t ≡ word b (5 * i + 1) → (r : Range) → r ≡ range_in b (5 * i + 2) → (z : ℕ) → z ≡ word b (5 * i + 4)
           → Busy (record { transaction = t % 65536; range = r; sent = z }) ≡ context_at (places_read b) i
       busy_read one t et r er z ez = rw (does_read, ← ew, one, et, er, ez)
+
+  -- of a place that is read only the number may differ, so the lowest idle one is the same
+  pub first_idle_read : first_idle (places_read b) ≡ first_idle (places_in b 0)
+  unfolding first_idle
+  first_idle_read =
+      first_same (λ i. is_idle (context_at (places_read b) i)) (λ i. is_idle (context_at (places_in b 0) i)) 4
+      (λ i l. rw (does_read i l, does i l) (either (eqb (word b (5 * i)) 1) (λ h. rw h) (λ h. rw h)))
 
   -- its bounds, by the first word
   module _ (i z : ℕ) (l : i < 4) (ez : z ≡ word b (5 * i)) where

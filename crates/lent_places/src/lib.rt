@@ -4,6 +4,7 @@
 
 ghost use Rattle.std.specs.Prelude.{◌≡◌, ◌||◌, ◌*◌, ◌<◌, leb};
 ghost use Rattle.rules.specs.States.{context_at, busy_with};
+ghost use Rattle.rules.specs.Commands.{first_idle};
 ghost use Rattle.places.specs.Turns.{first_within};
 ghost use Rattle.block.specs.Blocks.{context_words, places_in, place_bounds};
 ghost use Rattle.lent_places.specs.Reading.{places_read};
@@ -49,6 +50,13 @@ pub fn first_with(ps: &[u32], t: u16, k: usize) -> usize
     ensures { result ≡ first_within (places_in ps.now 0) t k }
 {
     (0..k.min(4)).find(|i| with_at(ps, t, *i)).unwrap_or(k)
+}
+
+// The lowest-numbered idle place, and 4 where there is none.
+pub fn first_idle(ps: &[u32]) -> usize
+    ensures { result ≡ first_idle (places_in ps.now 0) }
+{
+    places::first_idle(&LentPlaces(ps))
 }
 
 // Whether place i is five zeros, or busy with a transaction number of 16 bits. There is nothing past the last place.

@@ -1,18 +1,29 @@
-// Start-up in a block of the caller's memory, with the table in another. What a call asks of the state's block is in state. Kept beside start-up of a State: C lends words.
+// Start-up in a block of the caller's memory, with the table in another, and the good test on words of any length. What a call asks of the state's block is in state.
+// Kept beside these of a State: C lends words.
 #![tactic(auto)]
 
 ghost use Rattle.std.specs.Prelude.{◌≡◌, ◌≤◌, length};
 ghost use Rattle.rules.specs.Results.{verdict_number};
 ghost use Rattle.rules.specs.States.{no_state};
 ghost use Rattle.block.specs.Blocks.{word, block_of};
-ghost use Rattle.block.specs.Calls.{lg_start_up};
+ghost use Rattle.block.specs.Calls.{good_words, lg_start_up};
 ghost use Rattle.lent_state.specs.Tests.{good_table};
 ghost use Rattle.lent_state.specs.Writing.{table_written};
 
 use block::{put_run, range_in, set_word, word_at};
 use lent_regions::TableWords;
 use rules::Refusal;
-use state::start_words;
+use state::{Store, start_words};
+
+// The words of the image of a block that is a good state, else 0, as for words of another length.
+pub fn good_words(b: &[u32]) -> usize
+    ensures { result ≡ good_words b.now }
+{
+    match b.as_array::<80>() {
+        Some(block) => block.good_words(),
+        None => 0,
+    }
+}
 
 // Whether a block of 54 words is a table that start-up takes.
 fn table_good(t: &[u32]) -> bool
@@ -22,11 +33,11 @@ fn table_good(t: &[u32]) -> bool
     let unit = t[0];
     let n = t[1] as usize;
     let table = TableWords::new(&t[6..54]);
-    if !((unit <= 255) & table.rights_bounds(n)) {
+    let pools = [range_in(t, 2), range_in(t, 4)];
+    if start_words(&table, n, pools, (unit % 256) as u8) == 0 {
         return false;
     }
-    let pools = [range_in(t, 2), range_in(t, 4)];
-    start_words(&table, n, pools, unit as u8) != 0
+    (unit <= 255) & table.rights_bounds(n)
 }
 
 // The state of zero regions.

@@ -135,7 +135,7 @@ pub fn packet_length(k: Command) -> usize
 
 // A COMMAND PACKET, test by test
 
-// Numbers 4 and 5. The compiler reckons 230 of the 250 that it inlines, and takes this into its two callers, the service and the command reader.
+// Numbers 4 and 5. The compiler takes this into its callers: the service, the command reader and the batch that looks for symbols.
 pub fn headed(p: &[u8]) -> Result<(), Refusal>
     ensures { result ≡ headed_of p.now }
 {

@@ -66,7 +66,8 @@ fn cut_rules(f: DumpPacket) -> bool
     could_be_dumped(range) & (offset % 4 == 0) & is_cut(range, offset / 4, f.words)
 }
 
-// Numbers 4, 5, 7 and 9 of a dump packet.
+// Numbers 4, 5, 7 and 9 of a dump packet. It goes into both of its callers, the packet reader and the check of a whole dump.
+#[inline(always)]
 pub fn packet_verdict(p: &[u8]) -> Result<(), Refusal>
     ensures { result ≡ lowest (packet_rows p.now) }
 {

@@ -17,6 +17,10 @@ abbrev pub rules_by : ℕ → ℕ → ℕ → Bool
 rules_by start words before =
     eqb (start % 4) 0 && leb 1 words && leb words 1048576 && leb (start + 4 * words) 4294967296 && leb before start
 
+-- whether a region holds whole what begins at `from` and ends at `end`
+abbrev pub holds_by : ℕ → ℕ → ℕ → ℕ → Bool
+holds_by start words from end = leb start from && leb end (start + 4 * words)
+
 -- the words of the image of a table by the rules, which has at least one; else 0
 unfoldable pub table_words : List Region → ℕ → ℕ
 table_words rs n = cond (table_rules rs n) (image_length rs n) 0

@@ -2,9 +2,9 @@
 #![tactic(auto)]
 
 ghost use Rattle.std.specs.Prelude.{◌≡◌, true, List, ℕ, ◌*◌, ◌-◌, ◌/◌, ◌<◌, ◌≤◌, min, length};
-ghost use Rattle.rules.specs.Regions.{start_of, end_of, within, region_at, table_rules, first_of, words_below};
+ghost use Rattle.rules.specs.Regions.{start_of, end_of, region_at, table_rules, first_of, words_below};
 ghost use Rattle.regions.specs.Halving.{region_by_halving, compared, AtMostFive, NumberSettled, RightInOrder, find_by_halving};
-ghost use Rattle.regions.specs.Lookup.{rules_by, table_words, refusal_of, can_dump, FoundWhen, word_index, IndexWhen};
+ghost use Rattle.regions.specs.Lookup.{rules_by, holds_by, table_words, refusal_of, can_dump, FoundWhen, word_index, IndexWhen};
 ghost use Rattle.regions.specs.SearchExamples.{SearchExamples};
 ghost use Rattle.rules.specs.declared.Range.{Range};
 ghost use Rattle.rules.specs.declared.Region.{Region};
@@ -39,22 +39,22 @@ impl From<Miss> for Refusal {
 
 // What a search answers: the region, or the number of entries looked at where none holds the range; and how many regions it compared.
 #[derive(Clone, Copy)]
-struct Searched {
-    region: usize,
-    compared: usize,
+pub struct Searched {
+    pub region: usize,
+    pub compared: usize,
 }
 
 // ONE REGION
 
 // The end of a range, in 64 bits: it may be 2^32 and more.
-fn end_of(a: Range) -> u64
+pub fn end_of(a: Range) -> u64
     ensures { result ≡ end_of a }
 {
     u64::from(a.start.0) + 4 * u64::from(a.words)
 }
 
 // The rules of a region, with the end of the region before it.
-fn region_rules(region: Range, before: u64) -> bool
+pub fn region_rules(region: Range, before: u64) -> bool
     ensures { result ≡ rules_by region.start.0 region.words before }
 {
     (region.start.0 % 4 == 0)
@@ -64,22 +64,22 @@ fn region_rules(region: Range, before: u64) -> bool
         & (before <= u64::from(region.start.0))
 }
 
-// Whether a region holds a range whole.
-fn is_holding(region: Range, a: Range) -> bool
-    ensures { result ≡ within a region }
+// Whether a region holds whole what begins at `from` and ends at `end`.
+pub fn is_holding(region: Range, from: Address, end: u64) -> bool
+    ensures { result ≡ holds_by region.start.0 region.words from.0 end }
 {
-    (region.start.0 <= a.start.0) & (end_of(a) <= end_of(region))
+    (region.start.0 <= from.0) & (end <= end_of(region))
 }
 
 // The words of a region before an address.
-fn words_before(region: Range, from: Address) -> u32
+pub fn words_before(region: Range, from: Address) -> u32
     ensures { result ≡ (from.0 - start_of region) / 4 }
 {
     from.0.saturating_sub(region.start.0) / 4
 }
 
 // The first word of a range, or the word that an empty one would begin with.
-fn first_word(a: Range) -> Range
+pub fn first_word(a: Range) -> Range
     ensures { result ≡ first_of a }
 {
     Range { words: 1, ..a }
@@ -152,7 +152,7 @@ fn region_of<T: Table>(rs: &T, n: usize, a: Range) -> Searched
         }
         left -= half;
     }
-    if is_holding(rs.entry(first).range, a) {
+    if is_holding(rs.entry(first).range, a.start, end_of(a)) {
         return Searched {
             region: first,
             compared,

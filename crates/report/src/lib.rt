@@ -1,6 +1,8 @@
 // What the demonstration program prints. Every line but the first starts with its line feed.
 #![tactic(auto)]
 
+ghost use Rattle.std.specs.Prelude.{◌≡◌, take};
+
 mod fields;
 
 use command_reader::reading_of;
@@ -8,6 +10,13 @@ use fields::{dump_fields, figures, telecommand, value};
 use packet_reader::read_packet;
 use rules::{Refusal, Written};
 use std::io;
+
+// The first n bytes, or all where there are fewer.
+pub fn front(p: &[u8], n: usize) -> &[u8]
+    ensures { result.now ≡ take n p.now }
+{
+    if n < p.len() { &p[..n] } else { p }
+}
 
 // Bytes in hex, sixteen to a line.
 fn bytes(rt: &impl Print, p: &[u8]) -> io::Result<()> {
@@ -81,7 +90,7 @@ pub fn show_answer(
     if let Ok(Written { length }) = answer {
         print!(rt; ", {length} bytes written")?;
         if 0 < length {
-            show_packet(rt, &buffer[..length.min(buffer.len())])?;
+            show_packet(rt, front(buffer, length))?;
         }
     }
     Ok(())

@@ -106,7 +106,23 @@ module _ (b : List ℕ) where
             (and_both (and_both (and_left first counts own) (and_left (places_bounds b) rules each)) (counts_fit count)))
             (and_both (and_both (and_left start places rest) count) (and_right (places_bounds b) rules each))
 
-    -- THE STEPS: r, k and v as the table, the counts and the words of the table are
+    -- THE STEPS: w as start-up's words are, the unit cut to a byte; r, k and v as the table, the counts and the words of the table are
+    module _ (v : List ℕ) (ev : v ≡ take 48 (drop 1 b)) (p q : Range) (ep : p ≡ range_in b 49) (eq : q ≡ range_in b 51) (w : ℕ)
+        (ew : w ≡ cond (start_rules (regions_in v 0) (word b 0) (p ∷ q ∷ []) (word b 53 % 256)) (image_length (regions_in v 0) (word b 0)) 0) where
+      start_of_unit : leb (word b 53) 255 ≡ true → w ≡ cond start (image_length (regions_in b 1) (word b 0)) 0
+      start_of_unit u =
+          let l = leb-true (word b 53) 255 u in
+          let e : word b 53 % 256 ≡ word b 53 = omega arith in
+          rw (ev, regions_part b 1, ep, eq, e) at ew
+
+      pub start_refused : w ≡ 0 → 0 ≡ cond (is_block b && good_state (state_of b)) (image_length (state_of b).regions (state_of b).count) 0
+      start_refused z =
+          either (leb (word b 53) 255)
+          (λ u.
+          let e = start_words_none (regions_in b 1) (word b 0) (pools_in b 49) (word b 53) w (start_of_unit u) z in
+          either words (λ h. rw (good_is, h, e)) (λ h. rw (good_is, h)))
+          (λ u. either (regions_bounds b 1 (word b 0)) (λ h. rw (good_is, h, u)) (λ h. rw (good_is, h)))
+
     module _ (v : List ℕ) (ev : v ≡ take 48 (drop 1 b)) (r k : Bool) (er : r ≡ regions_bounds v 0 (word b 0)) (ek : k ≡ count_rules (state_of b)) where
       words_are : (r && leb (word b 53) 255 && k) ≡ words
       words_are = rw (er, ev, ek, rights_part b 1 (word b 0))
@@ -115,17 +131,14 @@ module _ (b : List ℕ) where
       words_refused h = let e : words ≡ false = sym words_are ∙ not-true (r && leb (word b 53) 255 && k) h in rw (good_is, e)
 
       module _ (h : not (r && leb (word b 53) 255 && k) ≡ false) (p q : Range) (ep : p ≡ range_in b 49) (eq : q ≡ range_in b 51) (w : ℕ)
-          (ew : w ≡ cond (start_rules (regions_in v 0) (word b 0) (p ∷ q ∷ []) (word b 53)) (image_length (regions_in v 0) (word b 0)) 0) where
+          (ew : w ≡ cond (start_rules (regions_in v 0) (word b 0) (p ∷ q ∷ []) (word b 53 % 256)) (image_length (regions_in v 0) (word b 0)) 0) where
         words_pass : words ≡ true
         words_pass = sym words_are ∙ not-false (r && leb (word b 53) 255 && k) h
 
         start_is : w ≡ cond start (image_length (regions_in b 1) (word b 0)) 0
-        start_is = rw (ev, regions_part b 1, ep, eq) at ew
-
-        pub start_refused : w ≡ 0 → 0 ≡ cond (is_block b && good_state (state_of b)) (image_length (state_of b).regions (state_of b).count) 0
-        start_refused z =
-            let e = start_words_none (regions_in b 1) (word b 0) (pools_in b 49) (word b 53) w start_is z in
-            rw (good_is, words_pass, e)
+        start_is =
+            let bounds = and_left (regions_bounds b 1 (word b 0) && leb (word b 53) 255) (count_rules (state_of b)) words_pass in
+            start_of_unit v ev p q ep eq w ew (and_right (regions_bounds b 1 (word b 0)) (leb (word b 53) 255) bounds)
 
         module _ (s : w ≢ 0) (x y : Bool) (ex : x ≡ places_bounds b)
             (ey : table_rules (regions_in v 0) (word b 0) ≡ true → length (places_read (take 20 (drop 54 b))) ≡ 4
@@ -152,6 +165,13 @@ module _ (b : List ℕ) where
           all_passed g =
               let e : places ≡ true = sym places_are ∙ not-false (x && y) g in
               start_passed.1 ∙ rw (good_is, words_pass, start_passed.0, e)
+
+        -- a word of a place out of its bounds
+        pub bounds_refused : w ≢ 0 → (x : Bool) → x ≡ places_bounds b → not x ≡ true
+            → 0 ≡ cond (is_block b && good_state (state_of b)) (image_length (state_of b).regions (state_of b).count) 0
+        bounds_refused s x ex g =
+            let e : x ≡ false = not-true x g in
+            places_refused s x (places_rules (regions_in v 0) (word b 0) (places_read (take 20 (drop 54 b)))) ex (λ h four. refl) (rw e)
 
   -- A GOOD BLOCK
 

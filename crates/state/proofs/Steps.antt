@@ -11,8 +11,9 @@ use lib.Dec.{leb, eqb}
 use lib.ListN.{length, set, take, replicate}
 use lib.Seq.{set_at, take-suc, length-take-le, append_snoc}
 use borrow.Author.Tests.{not-true, not-false, leb-true}
-use Rattle.lists.proofs.Tests.{either, and_left}
-use Rattle.lists.proofs.Below.{all_of}
+use Rattle.lists.proofs.Tests.{either, contra, and_left}
+use Rattle.lists.specs.Below.{all_below}
+use Rattle.lists.proofs.Below.{all_of, all_at}
 use Rattle.rules.specs.Regions.{no_region, region_at, aligned, dump_right, in_one_region, table_rules, image_length}
 use Rattle.rules.specs.States.{pool_at, pool_rules, start_rules, entries_used, fresh_state, no_state, start_up, dump_rules, context_at, apart, place_rules, places_rules, count_rules, good_state}
 use Rattle.rules.specs.declared.ActiveDump.{ActiveDump}
@@ -75,6 +76,10 @@ dump_tested rs n d fields dump ef ed =
     (λ h. rw (ef, h) (either (leb d.transaction 4095) (λ t. rw t) (λ t. rw t)))
 
 -- A PLACE
+
+-- one that breaks a rule
+pub some_not : (p : ℕ → Bool) (n : ℕ) {i : ℕ} → i < n → p i ≡ false → false ≡ all_below p n
+some_not p n l h = either (all_below p n) (λ e. absurd (contra (all_at p n e l) h)) (λ e. sym e)
 
 module _ (rs : List Region) (n : ℕ) (ps : List Place) (i : ℕ) where
   pub place_idle : context_at ps i ≡ Idle → true ≡ place_rules rs n ps i

@@ -31,6 +31,8 @@ fn pool_rules<T: Table>(rs: &T, n: usize, p: Range) -> bool
 }
 
 // The words of the image where start-up takes the table, the pools and the unit, else 0. Kept: 0 as in `table_words`.
+// It goes into start-up and the good test: as a call it takes more of the stack, and of the time of a short call.
+#[inline(always)]
 pub fn start_words<T: Table>(rs: &T, n: usize, ps: [Range; 2], unit: u8) -> usize
     ensures { result ≡ cond (start_rules (T.entries rs.now) n ps unit) (image_length (T.entries rs.now) n) 0 }
 {
@@ -61,14 +63,16 @@ fn place_rules<T: Table, P: Places>(rs: &T, n: usize, ps: &P, i: usize) -> bool
     }
 }
 
-// Whether each of four places is by the rules.
+// Whether each of four places is by the rules: no place after the first that breaks one is looked at.
 pub fn places_rules<T: Table, P: Places>(rs: &T, n: usize, ps: &P) -> bool
     ensures { table_rules (T.entries rs.now) n ≡ true → length (P.places ps.now) ≡ 4 → result ≡ places_rules (T.entries rs.now) n (P.places ps.now) }
 {
-    place_rules(rs, n, ps, 0)
-        & place_rules(rs, n, ps, 1)
-        & place_rules(rs, n, ps, 2)
-        & place_rules(rs, n, ps, 3)
+    for i in 0..4 {
+        if !place_rules(rs, n, ps, i) {
+            return false;
+        }
+    }
+    true
 }
 
 // Kept beside the one of words: six fields against six words, and one function would ask the store for each.
@@ -337,7 +341,7 @@ impl Store for State {
     }
 
     fn serve(&mut self, i: usize, c: Context) {
-        self.places = set_context(self.places, i, c);
+        self.set_place(i, c);
         self.last = (i % 256) as u8;
         self.packets = raised(self.packets, 16384);
     }

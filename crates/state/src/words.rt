@@ -51,15 +51,18 @@ impl Store for [u32; 80] {
         eighty_words(self);
         let n = self[0] as usize;
         let table = TableWords::new(&self[1..49]);
-        if !(table.rights_bounds(n) & (self[53] <= 255) & count_rules(self)) {
-            return 0;
-        }
         let pools = [range_in(self, 49), range_in(self, 51)];
-        let words = start_words(&table, n, pools, self[53] as u8);
+        let words = start_words(&table, n, pools, (self[53] % 256) as u8);
         if words == 0 {
             return 0;
         }
-        if !(places_bounds(self) & places_rules(&table, n, &LentPlaces(&self[54..74]))) {
+        if !(table.rights_bounds(n) & (self[53] <= 255) & count_rules(self)) {
+            return 0;
+        }
+        if !places_bounds(self) {
+            return 0;
+        }
+        if !places_rules(&table, n, &LentPlaces(&self[54..74])) {
             return 0;
         }
         words
@@ -130,7 +133,7 @@ impl Store for [u32; 80] {
     }
 
     fn serve(&mut self, i: usize, c: Context) {
-        put_context(self, i, c);
+        self.set_place(i, c);
         self[74] = (i % 4) as u32;
         raise(self, 76, 16383);
     }

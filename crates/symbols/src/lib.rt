@@ -216,13 +216,14 @@ impl<'a> Symbols<'a> {
     }
 
     pub fn tested(bytes: &'a [u8]) -> Symbols<'a>
-        ensures { result.bytes.now ≡ bytes.now }
+        ensures { (result.bytes.now ≡ bytes.now) × (result.known ≡ Some (symbol_table bytes.now)) }
     {
         let known = Some(is_table(bytes));
         Symbols { bytes, known }
     }
 
-    fn is_table(&self) -> bool
+    // Whether the bytes are a table.
+    pub fn is_table(&self) -> bool
         ensures { result ≡ symbol_table self.now.bytes.now }
     {
         match self.known {

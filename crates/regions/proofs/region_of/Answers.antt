@@ -39,7 +39,7 @@ returns-then-is_holding g c =
     let w = c.loop-left.invariant.1 in
     let k = one_left_lem (is_short (g.T.Table.entries c.args.rs.now) c.args.a) c.min-used.result _ _ _ w c.loop-left-test.false in
     rw (← c.min-used.ensures) (
-      region_held rs c.args.a _ _ k (rw c.entry-2.ensures at (sym c.is_holding.ensures ∙ c.if-is_holding.true)),
+      region_held rs c.args.a _ _ k (rw (c.entry-2.ensures, c.end_of-2.ensures) at (sym c.is_holding.ensures ∙ c.if-is_holding.true)),
       compared_is rs c.args.a _ (all_counted (is_short (g.T.Table.entries c.args.rs.now) c.args.a) c.min-used.result _ _ _ w c.loop-left-test.false),
       at_most_five _ _ _,
     )
@@ -50,7 +50,7 @@ returns g c =
     let w = c.loop-left.invariant.1 in
     let k = one_left_lem (is_short (g.T.Table.entries c.args.rs.now) c.args.a) c.min-used.result _ _ _ w c.loop-left-test.false in
     rw (← c.min-used.ensures) (
-      region_none rs c.args.a _ _ k (rw c.entry-2.ensures at (sym c.is_holding.ensures ∙ c.if-is_holding.false)),
+      region_none rs c.args.a _ _ k (rw (c.entry-2.ensures, c.end_of-2.ensures) at (sym c.is_holding.ensures ∙ c.if-is_holding.false)),
       compared_is rs c.args.a _ (all_counted (is_short (g.T.Table.entries c.args.rs.now) c.args.a) c.min-used.result _ _ _ w c.loop-left-test.false),
       at_most_five _ _ _,
     )
